@@ -1,0 +1,98 @@
+-- The memory of a loaded image: its words stand where they were put, and the arena is all zero.
+use Rattle.std.proofs.Common.{◌≡◌, ℕ, ◌+◌, ◌-◌, ◌*◌, ◌/◌, ◌%◌, ◌<◌, ◌≤◌, List, [], ◌∷◌, ◌++◌, length, take, drop, flat_map, slice_index, Some, None, true, nat_lt, lt-ltb, add-zero, if◌then◌else◌, refl, sym, ap, subst, ◌∙◌, arith, append_assoc, length-append}
+use Rattle.std.proofs.lemmas.Grind.{common_steps}
+use Rattle.bv_io.specs.declared.memory_map.TheConstants.{ARENA_START, ARENA_BYTES, ARENA_END}
+use Rattle.bv_io.specs.Bytes.{zeros}
+use Rattle.bv_io.proofs.Zeros.{length-zeros, zeros-add}
+use Rattle.arm2_machine.specs.declared.layout.TheConstants.{RAM_END, IMAGE_START, IMAGE_WORDS}
+use Rattle.arm2_machine.specs.Words.{word_bytes, word_at, fetched}
+use Rattle.arm2_machine.specs.Machine.{loaded_ram, arena_of}
+
+pub length-flat_map-word_bytes : (words : List ℕ) → length (flat_map word_bytes words) ≡ 4 * length words
+length-flat_map-word_bytes [] = refl
+length-flat_map-word_bytes (w ∷ ws) = omega (arith, length-append (word_bytes w) (flat_map word_bytes ws), length-flat_map-word_bytes ws)
+
+lengths : (start more rest : ℕ) (words : List ℕ) → length words ≤ more → rest ≡ 4 * more - 4 * length words → length (zeros start ++ (flat_map word_bytes words ++ zeros rest)) ≡ start + 4 * more
+lengths start more rest words short is =
+    length-append (zeros start) _
+    ∙ (λ i. length-zeros start i + length-append (flat_map word_bytes words) (zeros rest) i)
+    ∙ (λ i. start + (length-flat_map-word_bytes words i + length-zeros rest i))
+    ∙ omega (arith, short, is)
+
+pub length-loaded_ram : (words : List ℕ) → length words ≤ IMAGE_WORDS → length (loaded_ram words) ≡ RAM_END
+unfolding loaded_ram
+length-loaded_ram words short = lengths IMAGE_START 3932160 (15728640 - 4 * length words) words (omega arith) refl
+
+drop_front : (xs ys : List ℕ) (n : ℕ) → length xs ≡ n → drop n (xs ++ ys) ≡ ys
+drop_front xs ys n is = grind (arith, common_steps)
+
+take_front : (xs ys : List ℕ) (n : ℕ) → length xs ≡ n → take n (xs ++ ys) ≡ xs
+take_front xs ys n is = grind (arith, common_steps)
+
+-- a part that lies in the middle of zeros
+middle : (before part after : ℕ) (rest : List ℕ) → take part (drop before (zeros (before + (part + after)) ++ rest)) ≡ zeros part
+middle before part after rest =
+    ap (λ l. take part (drop before (l ++ rest))) (zeros-add before (part + after) ∙ ap (λ l. zeros before ++ l) (zeros-add part after))
+    ∙ ap (λ l. take part (drop before l)) (append_assoc (zeros before) _ rest)
+    ∙ ap (take part) (drop_front (zeros before) _ before (length-zeros before))
+    ∙ ap (take part) (append_assoc (zeros part) (zeros after) rest)
+    ∙ take_front (zeros part) _ part (length-zeros part)
+
+arena_lies_below : ARENA_START + (ARENA_BYTES + (IMAGE_START - ARENA_END)) ≡ IMAGE_START
+arena_lies_below = refl
+
+-- the arena of a loaded image is all zero
+pub arena_of-loaded_ram : (words : List ℕ) → arena_of (loaded_ram words) ≡ zeros ARENA_BYTES
+unfolding loaded_ram arena_of
+arena_of-loaded_ram words = middle ARENA_START ARENA_BYTES (IMAGE_START - ARENA_END) _
+
+-- the words stand from an address on
+abbrev pub HasAt : List ℕ → ℕ → List ℕ → Type 0
+HasAt ram a [] = Unit {0}
+HasAt ram a (w ∷ ws) = (fetched ram a ≡ Some w) × HasAt ram (a + 4) ws
+
+-- words below 2^32
+abbrev pub AreWords : List ℕ → Type 0
+AreWords [] = Unit {0}
+AreWords (w ∷ ws) = (w < 4294967296) × AreWords ws
+
+word_from_bytes : (w : ℕ) → w < 4294967296 → w % 256 + 256 * (w / 256 % 256) + 65536 * (w / 65536 % 256) + 16777216 * (w / 16777216 % 256) ≡ w
+word_from_bytes w small = omega arith
+
+-- what stands behind so many bytes
+slice_index-append : (front back : List ℕ) (a k : ℕ) → length front ≡ a → slice_index (front ++ back) (a + k) ≡ slice_index back k
+slice_index-append front back a k is = grind (arith, common_steps)
+
+-- a word is fetched where its bytes stand
+fetched_at : (front back : List ℕ) (a w : ℕ) → length front ≡ a → w < 4294967296 → fetched (front ++ (word_bytes w ++ back)) a ≡ Some w
+fetched_at front back a w is small =
+    let ram = front ++ (word_bytes w ++ back) in
+    let inside : nat_lt (a + 3) (length ram) ≡ true = lt-ltb (a + 3) (length ram) (omega (arith, is, length-append front (word_bytes w ++ back))) in
+    let first : slice_index ram a ≡ w % 256 = ap (slice_index ram) (sym (add-zero a)) ∙ slice_index-append front _ a 0 is in
+    ap (λ b. if b then Some (word_at ram a) else None) inside
+    ∙ ap (λ n. Some n)
+    ((λ i. first i + 256 * slice_index-append front (word_bytes w ++ back) a 1 is i + 65536 * slice_index-append front (word_bytes w ++ back) a 2 is i + 16777216 * slice_index-append front (word_bytes w ++ back) a 3 is i)
+    ∙ word_from_bytes w small)
+
+-- words stand where their bytes were put
+has_at : (words front back : List ℕ) (a : ℕ) → length front ≡ a → AreWords words → HasAt (front ++ (flat_map word_bytes words ++ back)) a words
+has_at [] front back a is small = tt
+has_at (w ∷ ws) front back a is small = (
+  ap (λ l. fetched (front ++ l) a) (append_assoc (word_bytes w) (flat_map word_bytes ws) back) ∙ fetched_at front (flat_map word_bytes ws ++ back) a w is small.0,
+  subst (λ l. HasAt l (a + 4) ws)
+      (append_assoc front (word_bytes w) _ ∙ ap (λ l. front ++ l) (sym (append_assoc (word_bytes w) _ back)))
+      (has_at ws (front ++ word_bytes w) back (a + 4) (length-append front (word_bytes w) ∙ omega (arith, is)) small.1),
+)
+
+-- the words of a loaded image stand in its memory
+pub loaded_has : (words : List ℕ) → AreWords words → HasAt (loaded_ram words) IMAGE_START words
+unfolding loaded_ram
+loaded_has words small = has_at words (zeros IMAGE_START) _ IMAGE_START (length-zeros IMAGE_START) small
+
+pub has_front : (ram : List ℕ) (a : ℕ) (ws vs : List ℕ) → HasAt ram a (ws ++ vs) → HasAt ram a ws
+has_front ram a [] vs h = tt
+has_front ram a (w ∷ ws) vs h = (h.0, has_front ram (a + 4) ws vs h.1)
+
+pub has_back : (ram : List ℕ) (a : ℕ) (ws vs : List ℕ) → HasAt ram a (ws ++ vs) → HasAt ram (a + 4 * length ws) vs
+has_back ram a [] vs h = subst (λ n. HasAt ram n vs) (let e : a ≡ a + 4 * 0 = omega arith in e) h
+has_back ram a (w ∷ ws) vs h = subst (λ n. HasAt ram n vs) (let e : a + 4 + 4 * length ws ≡ a + 4 * length (w ∷ ws) = omega arith in e) (has_back ram (a + 4) ws vs h.1)

@@ -1,0 +1,40 @@
+use Rattle.std.proofs.Common.{sym, ap, ◌∙◌, ◌-◌, ◌+◌, [], le_trans, arith}
+use Rattle.bv_io.specs.Runs.{Ended, Reports, Breaks}
+use Rattle.bv_io.proofs.Loops.{so_far_goes, so_far_stops, so_far_ends, so_far_faults, with_bytes-nil}
+use Rattle.arm2_machine.specs.Step.{board_step}
+use Rattle.arm2_machine.proofs.board.Board.run.Goals as goal
+use Rattle.arm2_machine.proofs.board.Board.run.Goals.{in-Ran, in-Wrote+in_default}
+
+pub returns-in-Err-clause-fault : goal.returns-in-Err-clause-fault
+returns-in-Err-clause-fault g c =
+    so_far_faults board_step _ _ _ _ _ (c.args.bound - (c.steps.counter + 1)) _ _ _ _ (omega arith) c.in-Wrote.ensures.value c.in-Err.ensures.part c.steps.invariant.so_far
+
+pub returns-in-Over-clause-ok : goal.returns-in-Over-clause-ok
+returns-in-Over-clause-ok g c =
+    let r = so_far_stops board_step _ _ _ (Reports c.in-Over.report) _ _ (c.args.bound - (c.steps.counter + 1)) _ _ (omega arith) c.in-Over.ensures.value c.steps.invariant.so_far in
+    (r.0, r.1 ∙ ap (λ b. Ended b.machine r.0 (Reports c.in-Over.report)) (sym c.self.view_is), r.2)
+
+pub returns-in-Broke-clause-ok : goal.returns-in-Broke-clause-ok
+returns-in-Broke-clause-ok g c =
+    let e = Breaks c.in-Broke.kind c.in-Broke.address in
+    let r = so_far_stops board_step _ _ _ e _ _ (c.args.bound - (c.steps.counter + 1)) _ _ (omega arith) c.in-Broke.ensures.value c.steps.invariant.so_far in
+    (r.0, r.1 ∙ ap (λ b. Ended b.machine r.0 e) (sym c.self.view_is), r.2)
+
+pub returns-clause-ok : goal.returns-clause-ok
+returns-clause-ok g c = so_far_ends board_step _ _ _ _ _ _ (omega arith) c.steps.invariant.so_far
+
+pub steps-preserved : goal.steps-preserved
+steps-preserved g c =
+    let left = c.args.bound - (c.steps.counter + 1) in
+    let written = g.O.Sink.written in
+    record {
+      so_far = elim c.match-step.branch [
+        | in-Ran w ↦ so_far_goes board_step _ _ _ _ _ left [] _ _ _ (omega arith) w.in-Ran.ensures.value (ap written w.out-is ∙ sym (with_bytes-nil _)) c.steps.invariant.so_far
+        | in-Wrote+in_default w ↦ so_far_goes board_step _ _ _ _ _ left _ _ _ _ (omega arith) w.in-Wrote.ensures.value (ap written w.out-is ∙ w.in_default.ensures.ok) c.steps.invariant.so_far
+      ];
+      closed = c.step.ensures.closed ∙ c.steps.invariant.closed;
+      faults = elim c.match-step.branch [
+        | in-Ran w ↦ rw w.out-is c.steps.invariant.faults
+        | in-Wrote+in_default w ↦ rw w.out-is (le_trans c.steps.invariant.faults w.write.ensures.faults)
+      ];
+    }

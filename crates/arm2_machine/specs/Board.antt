@@ -1,0 +1,37 @@
+-- What the board's calls say.
+use Rattle.std.specs.Prelude.{Bool, true, false, List, [], ◌∷◌, ℕ, refl}
+use Rattle.std.specs.Coded.{Coded, code_by, coded×, coded_bool}
+use Rattle.bv_io.specs.declared.report.RunEnd.{RunEnd}
+use Rattle.bv_io.specs.declared.report.RunEnd.TheVariants as ends
+use Rattle.bv_io.specs.Runs.{Turn, Goes, Stops, End, Reports, Breaks, Progress, At, Ended}
+use Rattle.arm2_machine.specs.declared.processor.Happened.{Happened}
+use Rattle.arm2_machine.specs.declared.processor.Happened.TheVariants as happened
+use Rattle.arm2_machine.specs.Machine.{Machine, machine_code}
+
+-- a board as its callers see it
+pub record BoardState : Type 0 where
+  pub machine : Machine
+  pub closed : Bool
+
+-- a board is stored as the pair of its parts
+abbrev pub board_code : Coded BoardState
+board_code = code_by (Machine × Bool) (coded× machine_code coded_bool) (λ b. (b.machine, b.closed)) (λ p. record { machine = p.0; closed = p.1 }) (λ _. refl)
+
+-- a step by what it answers and the state that it leaves
+abbrev pub turn_of : Happened → Machine → Turn Machine End
+turn_of happened.Ran m = Goes m []
+turn_of (happened.Wrote byte) m = Goes m (byte ∷ [])
+turn_of (happened.Over report) m = Stops m [] (Reports report)
+turn_of (happened.Broke kind address) m = Stops m [] (Breaks kind address)
+
+-- a run by its answer, the state that it leaves, and what it wrote
+abbrev pub progress_of : RunEnd → Machine → List ℕ → Progress Machine End
+progress_of ends.Going m out = At m out
+progress_of (ends.Over report) m out = Ended m out (Reports report)
+progress_of (ends.Broken kind address) m out = Ended m out (Breaks kind address)
+
+-- a board is closed once its run has come to an end
+abbrev pub is_end : RunEnd → Bool
+is_end ends.Going = false
+is_end (ends.Over report) = true
+is_end (ends.Broken kind address) = true

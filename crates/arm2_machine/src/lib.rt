@@ -1,0 +1,12 @@
+//! The board: an ARM2 with 16 MiB of RAM and a few calls to the outside, and the image files that it runs.
+#![tactic(auto)]
+
+mod board;
+mod image;
+mod layout;
+mod processor;
+mod ram;
+
+pub use board::Board;
+pub use image::write_image;
+pub use layout::{IMAGE_START, IMAGE_WORDS, RAM_END};

@@ -1,0 +1,33 @@
+//! The program `basv`: its words, the real files and streams, and its status.
+#![tactic(auto)]
+
+use basv_top::{Status, basv};
+use bv_io::{DiskShelf, StdSink};
+use std::env;
+use std::io::{self, ErrorKind};
+use std::process::ExitCode;
+
+/// The words behind the program's name.
+fn words(rt: &HostRuntime) -> io::Result<Vec<String>> {
+    let mut words = Vec::new(rt.alloc());
+    for word in env::args(rt)?.skip(1) {
+        words.push(word)?;
+    }
+    Ok(words)
+}
+
+fn run(rt: HostRuntime) -> Status {
+    let words = match words(&rt) {
+        Ok(words) => words,
+        Err(error) if error.kind() == ErrorKind::OutOfMemory => return Status::NoMemory,
+        Err(_) => return Status::Usage,
+    };
+    let mut shelf = DiskShelf::new(rt);
+    let mut out = StdSink::out(rt);
+    let mut err = StdSink::err(rt);
+    basv(rt.alloc(), words.as_slice(), &mut shelf, &mut out, &mut err)
+}
+
+fn main(rt: HostRuntime) -> ExitCode {
+    ExitCode::from(run(rt).code())
+}

@@ -1,0 +1,161 @@
+-- The causes of refusals and statuses exclude each other.
+use Rattle.std.proofs.Common.{◌≡◌, ◌⊎◌, inl, inr, ℕ, ◌+◌, ◌<◌, ◌≤◌, List, [], ◌∷◌, ◌++◌, length, Option, Some, None, unwrap_or, Result, Ok, Err, IsErrAnd, refl, sym, ap, subst, ◌∙◌, arith}
+use Rattle.bv_io.specs.Shelf.{Rose, Tells, TellsMore}
+use Rattle.token_file.specs.declared.line.Line.{Line}
+use Rattle.token_file.specs.Lines.{Lines, Malformed}
+use Rattle.token_file.proofs.Records.{same_head, same_tail, one_list_of_lines, lines≢malformed, one_place}
+use Rattle.basv_top.specs.declared.item.Item.{Item}
+use Rattle.basv_top.specs.declared.item.ProgramLine.{ProgramLine}
+use Rattle.basv_top.specs.declared.refusal.Refusal.{Refusal}
+use Rattle.basv_top.specs.declared.refusal.Refusal.TheVariants as refusals
+use Rattle.basv_top.specs.declared.refusal.Which.{Which}
+use Rattle.basv_top.specs.declared.refusal.Which.TheVariants as limits
+use Rattle.basv_top.specs.declared.refusal.TheConstants.{FILE_BYTES}
+use Rattle.basv_top.specs.declared.top.Status.{Status}
+use Rattle.basv_top.specs.declared.top.Status.TheVariants as statuses
+use Rattle.basv_top.specs.Command.{Command, Compile}
+use Rattle.basv_top.specs.Grammar.{Parses, ParsesAll, Accepted}
+use Rattle.basv_top.specs.Refused.{FirstOutside, IsOutside, Refused, Explained}
+use Rattle.basv_top.specs.Top.{Explains, ExplainsCompile, status_of, ended}
+
+-- lines of which one is no item are no program
+no_program : (before : List Line) (line : Line) (after : List Line) (p : List ProgramLine) → ((item : Item) → Parses line.text item → ⊥) → ParsesAll (before ++ line ∷ after) p → ⊥
+no_program [] line after [] none each = each
+no_program [] line after (q ∷ qs) none each = none q.item each.1
+no_program (l ∷ ls) line after [] none each = each
+no_program (l ∷ ls) line after (q ∷ qs) none each = no_program ls line after qs none each.2
+
+-- the first line that is no item is determined
+one_first : (before before' : List Line) (line line' : Line) (after after' : List Line) (ps ps' : List ProgramLine) → before ++ line ∷ after ≡ before' ++ line' ∷ after' → ParsesAll before ps → ParsesAll before' ps' → ((item : Item) → Parses line.text item → ⊥) → ((item : Item) → Parses line'.text item → ⊥) → line ≡ line'
+one_first [] [] line line' after after' ps ps' same each each' none none' = same_head _ _ _ _ same
+one_first [] (b ∷ bs) line line' after after' ps [] same each each' none none' = absurd each'
+one_first [] (b ∷ bs) line line' after after' ps (q ∷ qs) same each each' none none' =
+    absurd (none q.item (subst (λ l. Parses l.text q.item) (sym (same_head _ _ _ _ same)) each'.1))
+one_first (b ∷ bs) [] line line' after after' [] ps' same each each' none none' = absurd each
+one_first (b ∷ bs) [] line line' after after' (q ∷ qs) ps' same each each' none none' =
+    absurd (none' q.item (subst (λ l. Parses l.text q.item) (same_head _ _ _ _ same) each.1))
+one_first (b ∷ bs) (b' ∷ bs') line line' after after' [] ps' same each each' none none' = absurd each
+one_first (b ∷ bs) (b' ∷ bs') line line' after after' (q ∷ qs) [] same each each' none none' = absurd each'
+one_first (b ∷ bs) (b' ∷ bs') line line' after after' (q ∷ qs) (r ∷ rs) same each each' none none' =
+    one_first bs bs' line line' after after' qs rs (same_tail _ _ _ _ same) each.2 each'.2 none none'
+
+one_first_number : (lines : List Line) (m n : ℕ) → FirstOutside lines m → FirstOutside lines n → m ≡ n
+one_first_number lines m n a b =
+    sym a.is_number ∙ ap (λ l. l.number) (one_first a.before b.before a.line b.line a.after b.after a.items b.items (sym a.split ∙ b.split) a.parsed b.parsed a.outside b.outside) ∙ b.is_number
+
+malformed_has_no_lines : (bytes : List ℕ) (at : ℕ) (lines : List Line) → Malformed bytes at → Lines bytes lines → ⊥
+malformed_has_no_lines bytes at lines m read = lines≢malformed bytes bytes lines m.lines m.rest refl read m.whole m.each m.no_record m.no_end
+
+one_malformed : (bytes : List ℕ) (at at' : ℕ) → Malformed bytes at → Malformed bytes at' → at ≡ at'
+one_malformed bytes at at' a b =
+    sym a.at ∙ one_place a.lines b.lines a.rest b.rest (sym a.whole ∙ b.whole) a.each b.each a.no_record b.no_record ∙ b.at
+
+one_outside : (bytes : List ℕ) (m n : ℕ) → IsOutside bytes m → IsOutside bytes n → m ≡ n
+one_outside bytes m n a b =
+    one_first_number b.lines m n (subst (λ l. FirstOutside l m) (one_list_of_lines bytes bytes a.lines b.lines refl a.read b.read) a.first) b.first
+
+-- no limit but that of a file's bytes is passed
+only_file : (bytes : List ℕ) (which : Which) (count : ℕ) → Refused bytes (refusals.Limit which count) → (FILE_BYTES < length bytes) × (refusals.Limit which count ≡ refusals.Limit limits.File (FILE_BYTES + 1))
+only_file bytes limits.File count r = (r.0, ap (λ n. refusals.Limit limits.File n) r.1)
+only_file bytes limits.Names count r = absurd r
+only_file bytes limits.Strings count r = absurd r
+only_file bytes limits.Parameters count r = absurd r
+only_file bytes limits.Dimensions count r = absurd r
+only_file bytes limits.Input count r = absurd r
+only_file bytes limits.Image count r = absurd r
+
+-- a file is refused for one reason at most
+pub refused_once : (bytes : List ℕ) (a b : Refusal) → Refused bytes a → Refused bytes b → a ≡ b
+refused_once bytes (refusals.Malformed at) (refusals.Malformed at') r q = ap (λ n. refusals.Malformed n) (one_malformed bytes at at' r.1 q.1)
+refused_once bytes (refusals.Malformed at) (refusals.Outside line) r q = absurd (malformed_has_no_lines bytes at q.lines r.1 q.read)
+refused_once bytes (refusals.Malformed at) (refusals.Limit which count) r q = absurd (let long = only_file bytes which count q in omega (arith, r.0, long.0))
+refused_once bytes (refusals.Outside line) (refusals.Malformed at) r q = absurd (malformed_has_no_lines bytes at r.lines q.1 r.read)
+refused_once bytes (refusals.Outside line) (refusals.Outside line') r q = ap (λ n. refusals.Outside n) (one_outside bytes line line' r q)
+refused_once bytes (refusals.Outside line) (refusals.Limit which count) r q = absurd (let long = only_file bytes which count q in omega (arith, r.short, long.0))
+refused_once bytes (refusals.Limit which count) (refusals.Malformed at) r q = absurd (let long = only_file bytes which count r in omega (arith, q.0, long.0))
+refused_once bytes (refusals.Limit which count) (refusals.Outside line) r q = absurd (let long = only_file bytes which count r in omega (arith, q.short, long.0))
+refused_once bytes (refusals.Limit which count) (refusals.Limit which' count') r q = (only_file bytes which count r).1 ∙ sym (only_file bytes which' count' q).1
+refused_once bytes refusals.NoMemory b r q = absurd r
+refused_once bytes (refusals.Malformed at) refusals.NoMemory r q = absurd q
+refused_once bytes (refusals.Outside line) refusals.NoMemory r q = absurd q
+refused_once bytes (refusals.Limit which count) refusals.NoMemory r q = absurd q
+
+-- a file that is accepted isn't refused
+pub accepted≢refused : (bytes : List ℕ) (p : List ProgramLine) (r : Refusal) → Accepted bytes p → Refused bytes r → ⊥
+accepted≢refused bytes p (refusals.Malformed at) accepted refused = malformed_has_no_lines bytes at accepted.lines refused.1 accepted.read
+accepted≢refused bytes p (refusals.Outside line) accepted refused =
+    let lines = one_list_of_lines bytes bytes accepted.lines refused.lines refl accepted.read refused.read in
+    no_program refused.first.before refused.first.line refused.first.after p refused.first.outside (subst (λ l. ParsesAll l p) (lines ∙ refused.first.split) accepted.parsed)
+accepted≢refused bytes p (refusals.Limit which count) accepted refused = let long = only_file bytes which count refused in omega (arith, accepted.short, long.0)
+accepted≢refused bytes p refusals.NoMemory accepted refused = refused
+
+-- what is told of a name is the content that it holds
+told_is : (told : Option (Option (List ℕ))) (bytes given : List ℕ) → told ≡ Some (Some bytes) → Tells told (Some given) → given ≡ bytes
+told_is told bytes given is tells = let e : Some bytes ≡ Some given = subst (λ t. Tells t (Some given)) is tells in sym (ap (λ o. unwrap_or o bytes) e)
+
+told_more : (told : Option (Option (List ℕ))) (bytes : List ℕ) (max : ℕ) → told ≡ Some (Some bytes) → TellsMore told max → max < length bytes
+told_more told bytes max is more = subst (λ t. TellsMore t max) is more
+
+told_missing : (bytes : List ℕ) → Some (Some bytes) ≡ Some None → ⊥
+told_missing bytes e = let held : Some bytes ≡ None = ap (λ o. unwrap_or o None) e in cc
+
+module _ {S : Type 0} (content : S → List ℕ → Option (Option (List ℕ))) (take_faults put_faults : S → ℕ) (old new : S) where
+  -- a refusal of the content that was taken explains its status
+  pub explained_by_refusal : (file image bytes : List ℕ) (r : Refusal) (answer : Result Unit Status) → Tells (content old file) (Some bytes) → length bytes ≤ FILE_BYTES → Explained bytes r → IsErrAnd answer (λ s. s ≡ status_of r) → ExplainsCompile content take_faults put_faults old new file image (ended answer)
+  explained_by_refusal file image bytes r (Ok _) told fits explained is = absurd is
+  explained_by_refusal file image bytes r (Err status) told fits explained is =
+      subst (ExplainsCompile content take_faults put_faults old new file image) (sym is) (by_reason r explained)
+    where
+      by_reason : (r : Refusal) → Explained bytes r → ExplainsCompile content take_faults put_faults old new file image (status_of r)
+      by_reason (refusals.Malformed at) explained = (bytes, at, told, explained)
+      by_reason (refusals.Outside line) explained = (bytes, line, told, explained)
+      by_reason (refusals.Limit which count) explained = absurd (let long = only_file bytes which count explained in omega (arith, fits, long.0))
+      by_reason refusals.NoMemory explained = tt
+
+  -- an accepted file is compiled, where nothing failed
+  pub accepted_is_done : (file image bytes : List ℕ) (p : List ProgramLine) (status : Status) → ExplainsCompile content take_faults put_faults old new file image status → content old file ≡ Some (Some bytes) → Accepted bytes p → (Rose (take_faults old) (take_faults new) → ⊥) → (Rose (put_faults old) (put_faults new) → ⊥) → (status ≡ statuses.Done) ⊎ (status ≡ statuses.NoMemory)
+  accepted_is_done file image bytes p statuses.Done e held accepted calm_take calm_put = inl refl
+  accepted_is_done file image bytes p statuses.NoMemory e held accepted calm_take calm_put = inr refl
+  accepted_is_done file image bytes p statuses.Malformed e held accepted calm_take calm_put =
+      absurd (accepted≢refused bytes p (refusals.Malformed e.1) accepted (subst (λ b. Refused b (refusals.Malformed e.1)) (told_is _ bytes e.0 held e.2) e.3))
+  accepted_is_done file image bytes p statuses.Outside e held accepted calm_take calm_put =
+      absurd (accepted≢refused bytes p (refusals.Outside e.1) accepted (subst (λ b. Refused b (refusals.Outside e.1)) (told_is _ bytes e.0 held e.2) e.3))
+  accepted_is_done file image bytes p statuses.Limit e held accepted calm_take calm_put =
+      absurd (let long = told_more _ bytes FILE_BYTES held e in omega (arith, accepted.short, long))
+  accepted_is_done file image bytes p statuses.ReadFault e held accepted calm_take calm_put =
+      elim e [ inl missing ↦ absurd (told_missing bytes (sym held ∙ missing)) | inr rose ↦ absurd (calm_take rose) ]
+  accepted_is_done file image bytes p statuses.WriteFault e held accepted calm_take calm_put = absurd (calm_put e.4)
+  accepted_is_done file image bytes p statuses.Usage e held accepted calm_take calm_put = absurd e
+  accepted_is_done file image bytes p statuses.NotImage e held accepted calm_take calm_put = absurd e
+  accepted_is_done file image bytes p statuses.Failed e held accepted calm_take calm_put = absurd e
+  accepted_is_done file image bytes p statuses.Bound e held accepted calm_take calm_put = absurd e
+  accepted_is_done file image bytes p statuses.Stray e held accepted calm_take calm_put = absurd e
+  accepted_is_done file image bytes p statuses.InputEnded e held accepted calm_take calm_put = absurd e
+  accepted_is_done file image bytes p statuses.Broken e held accepted calm_take calm_put = absurd e
+
+  -- a refused file gives the status of its reason, where the shelf did not fail to give it
+  pub refused_is_told : (file image bytes : List ℕ) (r : Refusal) (status : Status) → ExplainsCompile content take_faults put_faults old new file image status → content old file ≡ Some (Some bytes) → Refused bytes r → (Rose (take_faults old) (take_faults new) → ⊥) → (status ≡ status_of r) ⊎ (status ≡ statuses.NoMemory)
+  refused_is_told file image bytes r statuses.NoMemory e held refused calm = inr refl
+  refused_is_told file image bytes r statuses.Done e held refused calm =
+      absurd (accepted≢refused bytes e.compiled.program r (subst (λ b. Accepted b e.compiled.program) (told_is _ bytes e.bytes held e.given) e.compiled.accepted) refused)
+  refused_is_told file image bytes r statuses.Malformed e held refused calm =
+      inl (ap status_of (refused_once bytes (refusals.Malformed e.1) r (subst (λ b. Refused b (refusals.Malformed e.1)) (told_is _ bytes e.0 held e.2) e.3) refused))
+  refused_is_told file image bytes r statuses.Outside e held refused calm =
+      inl (ap status_of (refused_once bytes (refusals.Outside e.1) r (subst (λ b. Refused b (refusals.Outside e.1)) (told_is _ bytes e.0 held e.2) e.3) refused))
+  refused_is_told file image bytes r statuses.Limit e held refused calm =
+      inl (ap status_of (refused_once bytes (refusals.Limit limits.File (FILE_BYTES + 1)) r (told_more _ bytes FILE_BYTES held e, refl) refused))
+  refused_is_told file image bytes r statuses.ReadFault e held refused calm =
+      elim e [ inl missing ↦ absurd (told_missing bytes (sym held ∙ missing)) | inr rose ↦ absurd (calm rose) ]
+  refused_is_told file image bytes r statuses.WriteFault e held refused calm =
+      absurd (accepted≢refused bytes e.1 r (subst (λ b. Accepted b e.1) (told_is _ bytes e.0 held e.2) e.3) refused)
+  refused_is_told file image bytes r statuses.Usage e held refused calm = absurd e
+  refused_is_told file image bytes r statuses.NotImage e held refused calm = absurd e
+  refused_is_told file image bytes r statuses.Failed e held refused calm = absurd e
+  refused_is_told file image bytes r statuses.Bound e held refused calm = absurd e
+  refused_is_told file image bytes r statuses.Stray e held refused calm = absurd e
+  refused_is_told file image bytes r statuses.InputEnded e held refused calm = absurd e
+  refused_is_told file image bytes r statuses.Broken e held refused calm = absurd e
+
+  -- what is explained of a command is explained of its names
+  pub explained_names : (command : Option Command) (file image : List ℕ) (status : Status) → command ≡ Some (Compile file image) → Explains content take_faults put_faults old new command status → ExplainsCompile content take_faults put_faults old new file image status
+  explained_names command file image status is e = subst (λ c. Explains content take_faults put_faults old new c status) is e

@@ -1,0 +1,9 @@
+pub mod Grammar
+pub mod Refused
+pub mod Meaning
+pub mod Correct
+pub mod Parsing
+pub mod Code
+pub mod Command
+pub mod Meant
+pub mod Top

@@ -1,0 +1,42 @@
+ghost use Rattle.std.specs.Prelude.{◌≡◌, IfOk, IfErr};
+ghost use Rattle.basv_top.specs.Correct.{CompilesTo};
+ghost use Rattle.basv_top.specs.Refused.{Explained, refusal_of};
+
+use crate::code::generate;
+use crate::parse::parse_lines;
+use crate::refusal::{FILE_BYTES, Refusal, Which};
+use arm2_machine::write_image;
+use std::alloc::Global;
+use token_file::{FileError, read_file};
+
+impl From<FileError> for Refusal {
+    ghost use Rattle.std.specs.Prelude.{◌≡◌};
+    ghost use Rattle.basv_top.specs.Refused.{refusal_of};
+
+    ghost from_gives = { λ error refusal. refusal ≡ refusal_of error };
+
+    fn from(error: FileError) -> Refusal {
+        match error {
+            FileError::Malformed { at } => Refusal::Malformed { at },
+            FileError::NoMemory => Refusal::NoMemory,
+        }
+    }
+}
+
+/// The image file of a tokenised program, which does what the program does.
+pub fn compile(alloc: Global, bytes: &[u8]) -> Result<Vec<u8>, Refusal>
+    ensures headline { IfOk result (λ contents. CompilesTo bytes.now contents.items) }
+    ensures refused { IfErr result (Explained bytes.now) }
+{
+    if bytes.len() > FILE_BYTES as usize {
+        return Err(Refusal::Limit {
+            which: Which::File,
+            count: FILE_BYTES + 1,
+        });
+    }
+    let lines = read_file(alloc, bytes)?;
+    let program = parse_lines(alloc, &lines)?;
+    let words = generate(alloc, &program)?;
+    let contents = write_image(alloc, &words)?;
+    Ok(contents)
+}

@@ -1,0 +1,15 @@
+//! The compiler from tokenised BASIC V to images of the board, and the program `basv` over any shelf and sinks.
+#![tactic(auto)]
+
+mod code;
+mod command;
+mod compiler;
+mod item;
+mod parse;
+mod refusal;
+mod top;
+
+pub use compiler::compile;
+pub use item::{Item, ProgramLine};
+pub use refusal::{FILE_BYTES, Refusal, Which};
+pub use top::{Status, basv};

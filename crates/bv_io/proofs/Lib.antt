@@ -1,0 +1,6 @@
+mod FilesLemmas
+mod MemShelfLemmas
+pub mod RunLaws
+pub mod Agreement
+pub mod Loops
+pub mod Zeros

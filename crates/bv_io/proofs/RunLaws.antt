@@ -1,0 +1,100 @@
+-- Runs of any machine: more steps, and stretches of steps that lead from one state to another.
+use Rattle.std.proofs.Common.{◌≡◌, ℕ, zero, suc, ◌+◌, ◌<◌, List, [], ◌++◌, refl, sym, ap, subst, ◌∙◌, arith, append_assoc, append-nil}
+use Rattle.bv_io.specs.Outcome.{IsPrefix}
+use Rattle.bv_io.specs.Runs.{Turn, Goes, Stops, Progress, At, Ended, turned, run, written_by}
+
+pub run-zero : {S E : Type 0} (step : S → Turn S E) (s : S) (out : List ℕ) → run step zero s out ≡ At s out
+unfolding run
+run-zero step s out = refl
+
+pub run-suc : {S E : Type 0} (step : S → Turn S E) (n : ℕ) (s : S) (out : List ℕ) → run step (suc n) s out ≡ turned (step s) (run step n) out
+unfolding run
+run-suc step n s out = refl
+
+-- goes on behind a run
+abbrev pub and_then : {S E : Type 0} → Progress S E → (S → List ℕ → Progress S E) → Progress S E
+and_then (At s out) next = next s out
+and_then (Ended s out end) next = Ended s out end
+
+turned-and_then : {S E : Type 0} (t : Turn S E) (f g : S → List ℕ → Progress S E) (out : List ℕ) → and_then (turned t f out) g ≡ turned t (λ s o. and_then (f s o) g) out
+turned-and_then (Goes s bytes) f g out = refl
+turned-and_then (Stops s bytes end) f g out = refl
+
+turned-same : {S E : Type 0} (t : Turn S E) (f g : S → List ℕ → Progress S E) → ((s : S) (o : List ℕ) → f s o ≡ g s o) → (out : List ℕ) → turned t f out ≡ turned t g out
+turned-same (Goes s bytes) f g same out = same s (out ++ bytes)
+turned-same (Stops s bytes end) f g same out = refl
+
+-- m steps and n more are m + n steps
+pub run-add : {S E : Type 0} (step : S → Turn S E) (m n : ℕ) (s : S) (out : List ℕ) → run step (m + n) s out ≡ and_then (run step m s out) (run step n)
+run-add step zero n s out =
+    ap (λ k. run step k s out) (let e : 0 + n ≡ n = omega arith in e) ∙ sym (ap (λ p. and_then p (run step n)) (run-zero step s out))
+run-add step (suc m) n s out =
+    ap (λ k. run step k s out) (let e : suc m + n ≡ suc (m + n) = omega arith in e)
+    ∙ run-suc step (m + n) s out
+    ∙ turned-same (step s) _ _ (run-add step m n) out
+    ∙ sym (turned-and_then (step s) (run step m) (run step n) out)
+    ∙ sym (ap (λ p. and_then p (run step n)) (run-suc step m s out))
+
+-- a step that stops ends the run
+pub run_stops : {S E : Type 0} (step : S → Turn S E) (s t : S) (bytes : List ℕ) (end : E) (out : List ℕ) → step s ≡ Stops t bytes end → run step 1 s out ≡ Ended t (out ++ bytes) end
+run_stops step s t bytes end out stops = run-suc step 0 s out ∙ ap (λ u. turned u (run step 0) out) stops
+
+-- What was written before a stretch stands in front of what the stretch writes.
+abbrev pub behind : {S E : Type 0} → List ℕ → Progress S E → Progress S E
+behind front (At s out) = At s (front ++ out)
+behind front (Ended s out end) = Ended s (front ++ out) end
+
+turned-behind : {S E : Type 0} (t : Turn S E) (f : S → List ℕ → Progress S E) → ((s : S) (front out : List ℕ) → f s (front ++ out) ≡ behind front (f s out)) → (front out : List ℕ) → turned t f (front ++ out) ≡ behind front (turned t f out)
+turned-behind (Goes s bytes) f same front out = ap (f s) (append_assoc front out bytes) ∙ same s front (out ++ bytes)
+turned-behind (Stops s bytes end) f same front out = ap (λ o. Ended s o end) (append_assoc front out bytes)
+
+pub run-behind : {S E : Type 0} (step : S → Turn S E) (n : ℕ) (s : S) (front out : List ℕ) → run step n s (front ++ out) ≡ behind front (run step n s out)
+run-behind step zero s front out = run-zero step s (front ++ out) ∙ sym (ap (behind front) (run-zero step s out))
+run-behind step (suc n) s front out =
+    run-suc step n s (front ++ out)
+    ∙ turned-behind (step s) (run step n) (run-behind step n) front out
+    ∙ sym (ap (behind front) (run-suc step n s out))
+
+pub IsPrefix-refl : (xs : List ℕ) → IsPrefix xs xs
+IsPrefix-refl xs = ([], sym (append-nil xs))
+
+pub IsPrefix-trans : (xs ys zs : List ℕ) → IsPrefix xs ys → IsPrefix ys zs → IsPrefix xs zs
+IsPrefix-trans xs ys zs p q = (p.0 ++ q.0, q.1 ∙ ap (λ l. l ++ q.0) p.1 ∙ append_assoc xs p.0 q.0)
+
+turned_extends : {S E : Type 0} (t : Turn S E) (f : S → List ℕ → Progress S E) → ((s : S) (o : List ℕ) → IsPrefix o (written_by (f s o))) → (out : List ℕ) → IsPrefix out (written_by (turned t f out))
+turned_extends (Goes s bytes) f extends out = IsPrefix-trans _ _ _ (bytes, refl) (extends s (out ++ bytes))
+turned_extends (Stops s bytes end) f extends out = (bytes, refl)
+
+-- a run keeps what was written before it
+pub run_extends : {S E : Type 0} (step : S → Turn S E) (n : ℕ) (s : S) (out : List ℕ) → IsPrefix out (written_by (run step n s out))
+run_extends step zero s out = subst (λ p. IsPrefix out (written_by p)) (sym (run-zero step s out)) (IsPrefix-refl out)
+run_extends step (suc n) s out = subst (λ p. IsPrefix out (written_by p)) (sym (run-suc step n s out)) (turned_extends (step s) (run step n) (run_extends step n) out)
+
+-- from one state the machine comes to another in at least one step, and writes these bytes on the way
+pub record Leads {S E : Type 0} (step : S → Turn S E) (from to : S) (bytes : List ℕ) : Type 0 where
+  pub steps : ℕ
+  pub some : 0 < steps
+  pub goes : run step steps from [] ≡ At to bytes
+
+-- a step that goes on leads on
+pub leads_step : {S E : Type 0} (step : S → Turn S E) (s t : S) (bytes : List ℕ) → step s ≡ Goes t bytes → Leads step s t bytes
+leads_step step s t bytes is = record {
+  steps = 1;
+  some = omega arith;
+  goes = run-suc step 0 s [] ∙ ap (λ u. turned u (run step 0) []) is ∙ run-zero step t bytes;
+}
+
+-- behind a stretch the run goes on
+pub leads_run : {S E : Type 0} (step : S → Turn S E) (s t : S) (bytes : List ℕ) (l : Leads step s t bytes) (n : ℕ) (out : List ℕ) → run step (l.steps + n) s out ≡ run step n t (out ++ bytes)
+leads_run step s t bytes l n out =
+    run-add step l.steps n s out
+    ∙ ap (λ p. and_then p (run step n)) (ap (run step l.steps s) (sym (append-nil out)) ∙ run-behind step l.steps s out [] ∙ ap (behind out) l.goes)
+
+-- a stretch and a stretch are one
+pub leads-leads : {S E : Type 0} (step : S → Turn S E) (s t u : S) (bytes more : List ℕ) → Leads step s t bytes → Leads step t u more → Leads step s u (bytes ++ more)
+leads-leads step s t u bytes more first second = record {
+  steps = first.steps + second.steps;
+  some = omega (arith, first.some);
+  goes = leads_run step s t bytes first second.steps []
+      ∙ ap (run step second.steps t) (sym (append-nil bytes)) ∙ run-behind step second.steps t bytes [] ∙ ap (behind bytes) second.goes;
+}

@@ -1,0 +1,3 @@
+pub mod Records
+mod Fronts
+mod SoFar

@@ -1,0 +1,39 @@
+-- The records of a tokenised BASIC V file, as Acorn's interpreter keeps a program: a line is the byte 13, its number
+-- with the high byte first, its length, and its text.
+use Rattle.std.specs.Prelude.{◌≡◌, ◌≢◌, ℕ, ◌+◌, ◌/◌, ◌%◌, ◌<◌, ◌≤◌, List, [], ◌∷◌, ◌++◌, length, flat_map}
+use Rattle.std.specs.List.{AllByRecursion}
+use Rattle.token_file.specs.declared.line.Line.{Line}
+use Rattle.token_file.specs.declared.line.TheConstants.{LONGEST_TEXT, LINE_NUMBERS}
+
+-- the bytes of a line: 13, the number with its high byte first, four more than the text's length, the text
+abbrev pub record_of : Line → List ℕ
+record_of line = 13 ∷ (line.number / 256) ∷ (line.number % 256) ∷ (length line.text + 4) ∷ line.text
+
+-- What can be a line: the number's high byte isn't 255, the length is a byte, and the text has no 13.
+pub record IsLine (line : Line) : Type 0 where
+  pub number : line.number < LINE_NUMBERS
+  pub short : length line.text ≤ LONGEST_TEXT
+  pub text : AllByRecursion (λ b. b ≢ 13) line.text
+
+-- A file of these lines: their records, then 13 and 255, then anything.
+abbrev pub Lines : List ℕ → List Line → Type 0
+Lines bytes [] = (rest : List ℕ) × (bytes ≡ 13 ∷ 255 ∷ rest)
+Lines bytes (line ∷ lines) = (rest : List ℕ) × IsLine line × (bytes ≡ record_of line ++ rest) × Lines rest lines
+
+-- a whole record stands at the front
+abbrev pub BeginsRecord : List ℕ → Type 0
+BeginsRecord bytes = (line : Line) × (rest : List ℕ) × IsLine line × (bytes ≡ record_of line ++ rest)
+
+-- the end of the program stands at the front
+abbrev pub BeginsEnd : List ℕ → Type 0
+BeginsEnd bytes = (rest : List ℕ) × (bytes ≡ 13 ∷ 255 ∷ rest)
+
+-- Whole records fill the bytes up to a place, and neither a whole record nor the end stands there.
+pub record Malformed (bytes : List ℕ) (place : ℕ) : Type 0 where
+  pub lines : List Line
+  pub rest : List ℕ
+  pub each : AllByRecursion IsLine lines
+  pub whole : bytes ≡ flat_map record_of lines ++ rest
+  pub at : length (flat_map record_of lines) ≡ place
+  pub no_record : BeginsRecord rest → ⊥
+  pub no_end : BeginsEnd rest → ⊥

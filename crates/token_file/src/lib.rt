@@ -1,0 +1,8 @@
+//! Tokenised BASIC V files: the records of a file, which are the lines of its program.
+#![tactic(auto)]
+
+mod line;
+mod read;
+
+pub use line::{LINE_NUMBERS, LONGEST_TEXT, Line};
+pub use read::{FileError, read_file};

@@ -1,0 +1,116 @@
+ghost use Rattle.std.specs.Prelude.{◌≡◌, ◌≢◌, ℕ, ◌^◌, ◌<◌, ◌∷◌, length, IfOk, IfErr};
+ghost use Rattle.token_file.specs.Lines.{Lines};
+ghost use Rattle.token_file.specs.Read.{IsFront, ExplainsFile};
+
+use crate::line::Line;
+use sqlite_items::Items;
+use std::alloc::{AllocError, AllocFailed, Global};
+use thiserror::Error;
+
+/// Why a file has no lines.
+#[derive(Debug, Drop, Error)]
+pub enum FileError {
+    /// Whole records fill the bytes before `at`, an offset in bytes, and there stands neither a record nor the end.
+    #[error("Malformed")]
+    Malformed { at: u32 },
+    /// There was no memory for the lines.
+    #[error("NoMemory")]
+    NoMemory,
+}
+
+impl From<AllocError> for FileError {
+    ghost use Rattle.std.specs.Prelude.{◌≡◌};
+    ghost use Rattle.token_file.specs.declared.read.FileError.TheVariants.{NoMemory};
+
+    ghost from_gives = { λ _ error. error ≡ NoMemory };
+
+    fn from(_error: AllocError) -> FileError {
+        FileError::NoMemory
+    }
+}
+
+impl<T: Drop> From<AllocFailed<T>> for FileError {
+    ghost use Rattle.std.specs.Prelude.{◌≡◌};
+    ghost use Rattle.token_file.specs.declared.read.FileError.TheVariants.{NoMemory};
+
+    ghost from_gives = { λ _ error. error ≡ NoMemory };
+
+    fn from(_error: AllocFailed<T>) -> FileError {
+        FileError::NoMemory
+    }
+}
+
+/// What stands at the front of a part of a file.
+enum Front<'a> {
+    /// A whole record, and the bytes behind it.
+    Record {
+        number: u16,
+        text: &'a [u8],
+        after: &'a [u8],
+    },
+    /// The program's end.
+    End,
+    Neither,
+}
+
+/// The front of a part of a file that begins with these four bytes, of which the first is 13.
+fn read_record(high: u8, low: u8, size: u8, after: &[u8]) -> Front<'_>
+    requires { high ≢ 255 }
+    ensures { IsFront (13 ∷ high ∷ low ∷ size ∷ after.now) result }
+{
+    let Some(count) = size.checked_sub(4) else {
+        return Front::Neither;
+    };
+    let count = usize::from(count);
+    if after.len() < count {
+        return Front::Neither;
+    }
+    let (text, after) = after.split_at(count);
+    if text.contains(&13) {
+        return Front::Neither;
+    }
+    let number = u16::from(high) * 256 + u16::from(low);
+    Front::Record {
+        number,
+        text,
+        after,
+    }
+}
+
+fn read_front(bytes: &[u8]) -> Front<'_>
+    ensures { IsFront bytes.now result }
+{
+    match bytes {
+        [13, 255, ..] => Front::End,
+        [13, high, low, size, after @ ..] => read_record(*high, *low, *size, after),
+        _ => Front::Neither,
+    }
+}
+
+/// The lines of a file, whose bytes are fewer than 2^32.
+pub fn read_file(alloc: Global, bytes: &[u8]) -> Result<Vec<Line>, FileError>
+    requires { length bytes.now < 2 ^ 32 }
+    ensures ok { IfOk result (λ lines. Lines bytes.now lines.items) }
+    ensures err { IfErr result (ExplainsFile bytes.now) }
+{
+    let mut lines = Vec::new(alloc);
+    let mut rest = bytes;
+    'records: loop {
+        match read_front(rest) {
+            Front::Record {
+                number,
+                text,
+                after,
+            } => {
+                let text = Items::from_slice(alloc, text)?;
+                lines.push(Line { number, text })?;
+                rest = after;
+            }
+            Front::End => return Ok(lines),
+            Front::Neither => {
+                let at = (bytes.len() - rest.len()) as u32;
+                return Err(FileError::Malformed { at });
+            }
+        }
+    }
+}
