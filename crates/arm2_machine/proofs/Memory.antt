@@ -5,7 +5,7 @@ use Rattle.bv_io.specs.declared.memory_map.TheConstants.{ARENA_START, ARENA_BYTE
 use Rattle.bv_io.specs.Bytes.{zeros}
 use Rattle.bv_io.proofs.Zeros.{length-zeros, zeros-add}
 use Rattle.arm2_machine.specs.declared.layout.TheConstants.{RAM_END, IMAGE_START, IMAGE_WORDS}
-use Rattle.arm2_machine.specs.Words.{word_bytes, word_at, fetched}
+use Rattle.arm2_machine.specs.Words.{word_bytes, word_at, fetched, AreWords}
 use Rattle.arm2_machine.specs.Machine.{loaded_ram, arena_of}
 
 pub length-flat_map-word_bytes : (words : List ℕ) → length (flat_map word_bytes words) ≡ 4 * length words
@@ -51,12 +51,8 @@ abbrev pub HasAt : List ℕ → ℕ → List ℕ → Type 0
 HasAt ram a [] = Unit {0}
 HasAt ram a (w ∷ ws) = (fetched ram a ≡ Some w) × HasAt ram (a + 4) ws
 
--- words below 2^32
-abbrev pub AreWords : List ℕ → Type 0
-AreWords [] = Unit {0}
-AreWords (w ∷ ws) = (w < 4294967296) × AreWords ws
-
-word_from_bytes : (w : ℕ) → w < 4294967296 → w % 256 + 256 * (w / 256 % 256) + 65536 * (w / 65536 % 256) + 16777216 * (w / 16777216 % 256) ≡ w
+-- the number of a word's four bytes
+pub word_from_bytes : (w : ℕ) → w < 4294967296 → w % 256 + 256 * (w / 256 % 256) + 65536 * (w / 65536 % 256) + 16777216 * (w / 16777216 % 256) ≡ w
 word_from_bytes w small = omega arith
 
 -- what stands behind so many bytes

@@ -1,6 +1,6 @@
 -- What the board's calls say.
 use Rattle.std.specs.Prelude.{Bool, true, false, List, [], ◌∷◌, ℕ, refl}
-use Rattle.std.specs.Coded.{Coded, code_by, coded×, coded_bool}
+use Rattle.std.specs.Coded.{Coded, code_by, coded×, coded_ℕ, coded_bool}
 use Rattle.bv_io.specs.declared.report.RunEnd.{RunEnd}
 use Rattle.bv_io.specs.declared.report.RunEnd.TheVariants as ends
 use Rattle.bv_io.specs.Runs.{Turn, Goes, Stops, End, Reports, Breaks, Progress, At, Ended}
@@ -8,14 +8,19 @@ use Rattle.arm2_machine.specs.declared.processor.Happened.{Happened}
 use Rattle.arm2_machine.specs.declared.processor.Happened.TheVariants as happened
 use Rattle.arm2_machine.specs.Machine.{Machine, machine_code}
 
--- a board as its callers see it
+-- a board as its callers see it: its machine, the number of instructions made, and whether its run has ended
 pub record BoardState : Type 0 where
   pub machine : Machine
+  pub steps : ℕ
   pub closed : Bool
 
--- a board is stored as the pair of its parts
+-- a board is stored as the tuple of its parts
 abbrev pub board_code : Coded BoardState
-board_code = code_by (Machine × Bool) (coded× machine_code coded_bool) (λ b. (b.machine, b.closed)) (λ p. record { machine = p.0; closed = p.1 }) (λ _. refl)
+board_code =
+    code_by (Machine × (ℕ × Bool)) (coded× machine_code (coded× coded_ℕ coded_bool))
+    (λ b. (b.machine, (b.steps, b.closed)))
+    (λ p. record { machine = p.0; steps = p.1.0; closed = p.1.1 })
+    (λ _. refl)
 
 -- a step by what it answers and the state that it leaves
 abbrev pub turn_of : Happened → Machine → Turn Machine End

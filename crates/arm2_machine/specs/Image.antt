@@ -1,9 +1,54 @@
 -- Image files. This project's own.
-use Rattle.std.specs.Prelude.{◌≡◌, ℕ, ◌≤◌, List, ◌∷◌, ◌++◌, length, flat_map}
+use Rattle.std.specs.Prelude.{◌≡◌, ◌≢◌, ℕ, ◌+◌, ◌*◌, ◌<◌, ◌≤◌, min, List, ◌++◌, length, take, flat_map, slice_get}
+use Rattle.arm2_machine.specs.declared.image.ImageError.{ImageError}
+use Rattle.arm2_machine.specs.declared.image.ImageError.TheVariants as errors
+use Rattle.arm2_machine.specs.declared.image.TheConstants.{MAGIC}
 use Rattle.arm2_machine.specs.declared.layout.TheConstants.{IMAGE_WORDS}
-use Rattle.arm2_machine.specs.Words.{word_bytes}
+use Rattle.arm2_machine.specs.Words.{word_bytes, word_at, AreWords}
 
 -- The bytes BVA2, the number of words, and the words, each with its lowest byte first.
 pub record ImageOf (bytes words : List ℕ) : Type 0 where
-  pub spelled : bytes ≡ 66 ∷ 86 ∷ 65 ∷ 50 ∷ (word_bytes (length words) ++ flat_map word_bytes words)
+  pub spelled : bytes ≡ MAGIC ++ (word_bytes (length words) ++ flat_map word_bytes words)
   pub short : length words ≤ IMAGE_WORDS
+
+-- the number of words that a file says it has
+abbrev pub word_count : List ℕ → ℕ
+word_count bytes = word_at bytes 4
+
+-- The bytes begin as an image file does, up to this place, which is 4 or the first that differs.
+pub record MagicEnds (bytes : List ℕ) (at : ℕ) : Type 0 where
+  pub within : at ≤ 4
+  pub same : take at bytes ≡ take at MAGIC
+  pub differs : at < 4 → slice_get bytes at ≢ slice_get MAGIC at
+
+-- Why bytes are no image, at a place: one of the first four is wrong or missing there; or the number of words is cut
+-- off, at the bytes' end; or they end before or behind the words that they should have, at the smaller of the two ends.
+pub data NotImage (bytes : List ℕ) (at : ℕ) : Type 0 where
+  Unlike : MagicEnds bytes at → at < 4 → NotImage bytes at
+  CutOff : MagicEnds bytes 4 → length bytes < 8 → at ≡ length bytes → NotImage bytes at
+  OtherEnd : MagicEnds bytes 4 → 8 ≤ length bytes → word_count bytes ≤ IMAGE_WORDS → length bytes ≢ 8 + 4 * word_count bytes → at ≡ min (length bytes) (8 + 4 * word_count bytes) → NotImage bytes at
+
+-- the bytes begin an image of too many words
+pub record IsTooLong (bytes : List ℕ) : Type 0 where
+  pub magic : MagicEnds bytes 4
+  pub whole : 8 ≤ length bytes
+  pub long : IMAGE_WORDS < word_count bytes
+
+-- the bytes have the magic, a number of words, and as many bytes behind it as the words have
+pub record IsWhole (bytes : List ℕ) (count : ℕ) : Type 0 where
+  pub magic : MagicEnds bytes 4
+  pub is_count : count ≡ word_count bytes
+  pub fits : count ≤ IMAGE_WORDS
+  pub ends : length bytes ≡ 8 + 4 * count
+
+-- when each error comes: want of memory is free
+abbrev pub ExplainsImage : List ℕ → ImageError → Type 0
+ExplainsImage bytes (errors.NotImage at) = NotImage bytes at
+ExplainsImage bytes errors.TooLong = IsTooLong bytes
+ExplainsImage bytes errors.NoMemory = Unit {0}
+
+-- the bytes are an image of these words and of no others, and are not refused
+pub record HasOneImage (bytes words : List ℕ) : Type 0 where
+  pub only : (other : List ℕ) → AreWords other → ImageOf bytes other → other ≡ words
+  pub is_image : (at : ℕ) → NotImage bytes at → ⊥
+  pub fits : IsTooLong bytes → ⊥

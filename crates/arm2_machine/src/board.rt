@@ -1,7 +1,7 @@
-ghost use Rattle.std.specs.Prelude.{◌≡◌, ◌≤◌, [], List, ℕ, false, true, length, IfOk, OnErr};
+ghost use Rattle.std.specs.Prelude.{◌≡◌, ◌+◌, ◌-◌, ◌^◌, ◌≤◌, min, [], List, ℕ, false, true, length, IfOk, OnOk, OnErr};
 ghost use Rattle.bv_io.specs.Outcome.{IsPrefix};
-ghost use Rattle.bv_io.specs.Runs.{run, written_by};
-ghost use Rattle.bv_io.specs.Shelf.{Rose};
+ghost use Rattle.bv_io.specs.Runs.{run, steps_made, written_by};
+ghost use Rattle.bv_io.specs.Shelf.{Rose, counted};
 ghost use Rattle.bv_io.specs.Sink.{with_bytes};
 ghost use Rattle.arm2_machine.specs.Actions.{IsWithin};
 ghost use Rattle.arm2_machine.specs.Machine.{loaded, arena_of};
@@ -14,14 +14,15 @@ use bv_io::{ARENA_END, ARENA_START, NoMemory, RunEnd, Sink, SinkFault, Trap};
 use std::alloc::Global;
 use std::marker::Model;
 
-/// The board: the processor's registers R0 to R12 and its PC, the RAM, and the input that is left. It is closed once
-/// its run has come to an end.
+/// The board: the processor's registers R0 to R12 and its PC, the RAM, and the input that is left. It counts the
+/// instructions that it has made, up to the greatest `u64`, and is closed once its run has come to an end.
 #[derive(Drop)]
 pub struct Board {
     registers: [u32; 13],
     pc: u32,
     ram: Vec<u8>,
     input: Vec<u8>,
+    steps: u64,
     closed: bool,
 }
 
@@ -35,7 +36,7 @@ impl Model for Board {
 
     ghost coded = { board_code };
 
-    ghost view = { λ b. record { machine = record { registers = b.registers; pc = b.pc; ram = b.ram.items; input = b.input.items }; closed = b.closed } };
+    ghost view = { λ b. record { machine = record { registers = b.registers; pc = b.pc; ram = b.ram.items; input = b.input.items }; steps = b.steps; closed = b.closed } };
 
     ghost invariant = { λ b. (b.pc < PC_END) × (length b.ram.items ≡ RAM_END) };
 }
@@ -46,7 +47,7 @@ impl Board {
     /// The board at the start of an image of at most `IMAGE_WORDS` words, with this input.
     pub fn load(alloc: Global, words: &[u32], input: Vec<u8>) -> Result<Board, NoMemory>
         requires { length words.now ≤ IMAGE_WORDS }
-        ensures { IfOk result (λ board. board ≡ record { machine = loaded words.now input.items; closed = false }) }
+        ensures { IfOk result (λ board. board ≡ record { machine = loaded words.now input.items; steps = 0; closed = false }) }
     {
         let ram = ram::load(alloc, words)?;
         Ok(Board {
@@ -54,6 +55,7 @@ impl Board {
             pc: IMAGE_START,
             ram,
             input,
+            steps: 0,
             closed: false,
         })
     }
@@ -73,6 +75,13 @@ impl Board {
         self.closed
     }
 
+    /// The number of instructions that the board has made, which stays at the greatest `u64`.
+    pub fn steps(&self) -> u64
+        ensures { result ≡ self.now.steps }
+    {
+        self.steps
+    }
+
     fn advance(&mut self)
         ensures { self.new ≡ record self.old { machine = at_next self.old.machine } }
     {
@@ -84,6 +93,7 @@ impl Board {
         requires { IsWithin action }
         ensures value { acted self.old.machine action ≡ turn_of result self.new.machine }
         ensures closed { self.new.closed ≡ self.old.closed }
+        ensures steps { self.new.steps ≡ self.old.steps }
     {
         let address = self.pc;
         match action {
@@ -111,11 +121,13 @@ impl Board {
         }
     }
 
-    /// Makes one instruction.
+    /// Makes one instruction, and counts it.
     fn step(&mut self) -> Happened
         ensures value { board_step self.old.machine ≡ turn_of result self.new.machine }
         ensures closed { self.new.closed ≡ self.old.closed }
+        ensures steps { self.new.steps ≡ counted self.old.steps }
     {
+        self.steps = self.steps.saturating_add(1);
         let address = self.pc;
         match ram::fetch(self.ram.as_slice(), address) {
             Some(word) => self.act(processor::decode(word)),
@@ -134,6 +146,8 @@ impl Board {
             × (run board_step bound self.old.machine [] ≡ progress_of end self.new.machine bytes)
             × (O.written out.new ≡ with_bytes (O.written out.old) bytes)) }
         ensures closed { IfOk result (λ end. self.new.closed ≡ is_end end) }
+        ensures steps { OnOk result
+            (self.new.steps ≡ min (self.old.steps + steps_made board_step bound self.old.machine) (2 ^ 64 - 1)) }
 
         // After a fault some first part of the run's output was written.
         ensures fault { OnErr result ((bytes : List ℕ)
@@ -143,6 +157,8 @@ impl Board {
         ensures cause { OnErr result (Rose (O.faults out.old) (O.faults out.new)) }
         ensures faults { O.faults out.old ≤ O.faults out.new }
     {
+        // The proof learns here that the count is a `u64`.
+        let _ = &self.steps;
         'steps: for _ in 0..bound {
             match self.step() {
                 Happened::Ran => (),

@@ -8,5 +8,5 @@ mod processor;
 mod ram;
 
 pub use board::Board;
-pub use image::write_image;
+pub use image::{ImageError, read_image, write_image};
 pub use layout::{IMAGE_START, IMAGE_WORDS, RAM_END};

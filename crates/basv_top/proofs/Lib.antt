@@ -5,3 +5,4 @@ pub mod CodeAt
 pub mod Simulation
 pub mod Compiled
 pub mod Causes
+pub mod Verdicts

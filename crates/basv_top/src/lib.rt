@@ -5,11 +5,15 @@ mod code;
 mod command;
 mod compiler;
 mod item;
+mod laws;
 mod parse;
 mod refusal;
+#[cfg(test)]
+mod tests;
 mod top;
 
 pub use compiler::compile;
 pub use item::{Item, ProgramLine};
+pub use laws::{basv_in_memory, one_verdict};
 pub use refusal::{FILE_BYTES, Refusal, Which};
 pub use top::{Status, basv};

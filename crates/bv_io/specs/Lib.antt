@@ -4,5 +4,6 @@ pub mod Outcome
 pub mod Runs
 pub mod Bytes
 pub mod Files
+pub mod Answers
 pub mod MemShelf
 pub mod MemSink

@@ -1,5 +1,5 @@
 -- A shelf in memory. This project's own.
-use Rattle.std.specs.Prelude.{◌≡◌, ℕ, ◌≤◌, List, [], length, Contains, Option, Some, None, Result, Ok, Err, Vec, refl}
+use Rattle.std.specs.Prelude.{◌≡◌, ℕ, List, [], Contains, Result, Ok, Err, Vec, refl}
 use Rattle.std.proofs.Common.{Global}
 use Rattle.std.specs.Coded.{Coded, code_by, coded×, coded_ℕ, coded_list}
 use Rattle.std.specs.FinMap as map
@@ -8,7 +8,8 @@ use Rattle.bv_io.specs.declared.shelf.TakeError.TheVariants as take_error
 use Rattle.bv_io.specs.declared.shelf.PutError.{PutError}
 use Rattle.bv_io.specs.declared.shelf.PutError.TheVariants as put_error
 use Rattle.bv_io.specs.Files.{Held, held_code}
-use Rattle.bv_io.specs.Shelf.{counted, TellsMore}
+use Rattle.bv_io.specs.Shelf.{counted}
+use Rattle.bv_io.specs.Answers.{AnswersContent}
 
 -- the contents by their names, the number of calls made so far, the numbers of the calls that are to fail, and the
 -- two counts of faults
@@ -42,14 +43,6 @@ called s = record s { calls = next_call s }
 -- the next call is to fail
 abbrev pub FailsNext : MemShelfState → Type 0
 FailsNext s = Contains s.failing (next_call s)
-
--- what a content, or its absence, answers to a caller that takes at most so many bytes
-abbrev pub AnswersContent : Option (List ℕ) → ℕ → Result (Vec ℕ Global) TakeError → Type 0
-AnswersContent content max (Ok bytes) = (content ≡ Some bytes.items) × (length bytes.items ≤ max)
-AnswersContent content max (Err take_error.Missing) = content ≡ None
-AnswersContent content max (Err take_error.TooLong) = TellsMore (Some content) max
-AnswersContent content max (Err take_error.Failed) = ⊥
-AnswersContent content max (Err take_error.NoMemory) = Unit {0}
 
 -- What a take answers and leaves. It fails just where it is to fail, and a take without memory is no call.
 abbrev pub TakesFrom : MemShelfState → List ℕ → ℕ → Result (Vec ℕ Global) TakeError → MemShelfState → Type 0

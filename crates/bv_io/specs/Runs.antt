@@ -24,6 +24,16 @@ unfoldable pub run : {S E : Type 0} → (S → Turn S E) → ℕ → S → List 
 run step zero state out = At state out
 run step (suc n) state out = turned (step state) (run step n) out
 
+-- one more than what is counted behind a step, if it goes on
+abbrev pub counted_on : {S E : Type 0} → Turn S E → (S → ℕ) → ℕ
+counted_on (Goes state bytes) rest = suc (rest state)
+counted_on (Stops state bytes end) rest = 1
+
+-- How many steps are made from a state within n: n, or fewer where one of them stops.
+unfoldable pub steps_made : {S E : Type 0} → (S → Turn S E) → ℕ → S → ℕ
+steps_made step zero state = 0
+steps_made step (suc n) state = counted_on (step state) (steps_made step n)
+
 -- what a run has written
 abbrev pub written_by : {S E : Type 0} → Progress S E → List ℕ
 written_by (At state out) = out

@@ -1,8 +1,9 @@
 ghost use Rattle.std.specs.Prelude.{◌≡◌, List, ℕ, Option, OnOk, OnErr};
 ghost use Rattle.std.specs.Option.{option_copied, option_map};
 ghost use Rattle.std.specs.FinMap as map;
+ghost use Rattle.bv_io.specs.Answers.{AnswersContent};
 
-use crate::shelf::NoMemory;
+use crate::shelf::{NoMemory, TakeError};
 use std::alloc::Global;
 use std::collections::BTreeMap;
 use std::marker::Model;
@@ -55,4 +56,17 @@ impl Files {
         self.contents.insert(name, bytes)?;
         Ok(())
     }
+}
+
+/// A copy of a content of at most `max` bytes.
+pub fn content_within(alloc: Global, content: Option<&[u8]>, max: u32) -> Result<Vec<u8>, TakeError>
+    ensures { AnswersContent (option_map (λ bytes. bytes.now) content.entry) max result }
+{
+    let Some(bytes) = content else {
+        return Err(TakeError::Missing);
+    };
+    if bytes.len() > max as usize {
+        return Err(TakeError::TooLong);
+    }
+    Vec::from_slice(alloc, bytes).map_err(|_| TakeError::NoMemory)
 }

@@ -1,10 +1,9 @@
 ghost use Rattle.std.specs.Prelude.{◌≡◌, ◌≢◌, ℕ, ◌+◌, ◌≤◌, ◌↔◌, [], ◌∷◌, ◌++◌, List, Option, Some, None, Contains, IsTrue, IfOk, OnOk, OnErr, IsErrOf, vec_len};
-ghost use Rattle.std.specs.Option.{option_map};
 ghost use Rattle.std.specs.FinMap as map;
 ghost use Rattle.bv_io.specs.Shelf.{Rose, Tells, TellsMore};
-ghost use Rattle.bv_io.specs.MemShelf.{empty_shelf, next_call, FailsNext, AnswersContent, TakesFrom, PutsInto};
+ghost use Rattle.bv_io.specs.MemShelf.{empty_shelf, next_call, FailsNext, TakesFrom, PutsInto};
 
-use crate::files::Files;
+use crate::files::{Files, content_within};
 use crate::shelf::{NoMemory, PutError, Shelf, TakeError};
 use std::alloc::Global;
 use std::marker::Model;
@@ -105,19 +104,6 @@ impl MemShelf {
         self.count_call();
         Ok(())
     }
-}
-
-/// A copy of a content of at most `max` bytes.
-fn content_within(alloc: Global, content: Option<&[u8]>, max: u32) -> Result<Vec<u8>, TakeError>
-    ensures { AnswersContent (option_map (λ bytes. bytes.now) content.entry) max result }
-{
-    let Some(bytes) = content else {
-        return Err(TakeError::Missing);
-    };
-    if bytes.len() > max as usize {
-        return Err(TakeError::TooLong);
-    }
-    Vec::from_slice(alloc, bytes).map_err(|_| TakeError::NoMemory)
 }
 
 impl Shelf for MemShelf {

@@ -1,14 +1,15 @@
 -- Whether a record stands at the front, by its bytes.
-use Rattle.std.proofs.Common.{◌≡◌, ◌≢◌, ℕ, ◌+◌, ◌*◌, ◌/◌, ◌%◌, ◌<◌, Bool, true, false, nat_eq, List, [], ◌∷◌, ◌++◌, length, take, drop, refl, sym, ◌∙◌, arith, take-append-drop, subst, true≢false, ◌||◌, eqb-true, eq-eqb}
+use Rattle.std.proofs.Common.{◌≡◌, ◌≢◌, ◌≤◌, ◌↔◌, IsTrue, not, ℕ, ◌+◌, ◌*◌, ◌/◌, ◌%◌, ◌<◌, Bool, true, false, nat_eq, List, [], ◌∷◌, ◌++◌, length, take, drop, refl, sym, ◌∙◌, arith, take-append-drop, subst, true≢false, ◌||◌, eqb-true, eq-eqb}
 use Rattle.std.specs.List.{AllByRecursion, list_any}
 use Rattle.token_file.specs.declared.line.Line.{Line}
+use Rattle.token_file.specs.declared.line.TheConstants.{LINE_NUMBERS, LONGEST_TEXT}
 use Rattle.token_file.specs.Lines.{record_of, IsLine, BeginsRecord}
 use Rattle.token_file.proofs.Records.{same_fronts, same_tail, same_head}
 
-abbrev is_13 : ℕ → Bool
+abbrev pub is_13 : ℕ → Bool
 is_13 b = nat_eq b 13
 
-no_13 : (bytes : List ℕ) → list_any is_13 bytes ≡ false → AllByRecursion (λ b. b ≢ 13) bytes
+pub no_13 : (bytes : List ℕ) → list_any is_13 bytes ≡ false → AllByRecursion (λ b. b ≢ 13) bytes
 no_13 [] none = tt
 no_13 (b ∷ bytes) none = cases (nat_eq b 13) refl none (no_13 bytes)
   where
@@ -16,7 +17,7 @@ no_13 (b ∷ bytes) none = cases (nat_eq b 13) refl none (no_13 bytes)
     cases true is none others = absurd (true≢false none)
     cases false is none others = ((λ e. absurd (true≢false (sym (eq-eqb b 13 e) ∙ is))), others none)
 
-some_13 : (bytes : List ℕ) → list_any is_13 bytes ≡ true → AllByRecursion (λ b. b ≢ 13) bytes → ⊥
+pub some_13 : (bytes : List ℕ) → list_any is_13 bytes ≡ true → AllByRecursion (λ b. b ≢ 13) bytes → ⊥
 some_13 [] some each = true≢false (sym some)
 some_13 (b ∷ bytes) some each = cases (nat_eq b 13) refl some (λ s. some_13 bytes s each.1)
   where
@@ -44,3 +45,10 @@ is_record high low size count whole text after joined high_small low_small size_
     let at_low : low ≡ (high * 256 + low) % 256 = omega arith in
     let at_size : size ≡ length text + 4 = omega arith in
     (record { number = omega arith; short = omega arith; text = no_13 text none }, (λ i. 13 ∷ at_high i ∷ at_low i ∷ at_size i ∷ joined i))
+
+-- a line whose number and length a record can hold, by its text
+pub fits_text : (line : Line) (text : List ℕ) (has_13 : Bool) → line.number < LINE_NUMBERS → length line.text ≤ LONGEST_TEXT → text ≡ line.text → has_13 ≡ list_any is_13 text → IsTrue (not has_13) ↔ IsLine line
+fits_text line text false number short is none =
+    (λ _. record { number = number; short = short; text = subst (AllByRecursion (λ b. b ≢ 13)) is (no_13 text (sym none)) }, λ _. refl)
+fits_text line text true number short is some =
+    (λ e. absurd (true≢false (sym e)), λ fits. absurd (some_13 text (sym some) (subst (AllByRecursion (λ b. b ≢ 13)) (sym is) fits.text)))

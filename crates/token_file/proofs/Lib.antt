@@ -1,3 +1,5 @@
 pub mod Records
 mod Fronts
 mod SoFar
+mod Written
+pub mod Decided

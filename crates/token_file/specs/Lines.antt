@@ -37,3 +37,8 @@ pub record Malformed (bytes : List ℕ) (place : ℕ) : Type 0 where
   pub at : length (flat_map record_of lines) ≡ place
   pub no_record : BeginsRecord rest → ⊥
   pub no_end : BeginsEnd rest → ⊥
+
+-- A file has these lines and no others, and is malformed nowhere.
+pub record HasOneReading (bytes : List ℕ) (lines : List Line) : Type 0 where
+  pub only : (other : List Line) → Lines bytes other → other ≡ lines
+  pub nowhere : (place : ℕ) → Malformed bytes place → ⊥

@@ -3,6 +3,8 @@
 
 mod line;
 mod read;
+mod write;
 
 pub use line::{LINE_NUMBERS, LONGEST_TEXT, Line};
 pub use read::{FileError, read_file};
+pub use write::write_file;

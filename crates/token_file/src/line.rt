@@ -12,3 +12,19 @@ pub struct Line {
     pub number: u16,
     pub text: Items<u8>,
 }
+
+impl Line {
+    ghost use Rattle.std.specs.Prelude.{IsTrue, ◌↔◌};
+    ghost use Rattle.token_file.specs.Lines.{IsLine};
+
+    /// Whether a record of a file can hold the line: its number is below `LINE_NUMBERS`, and its text has at most
+    /// `LONGEST_TEXT` bytes, none of which is 13.
+    pub fn fits_record(&self) -> bool
+        ensures { IsTrue result ↔ IsLine self.now }
+    {
+        if self.number >= LINE_NUMBERS || self.text.len() > LONGEST_TEXT {
+            return false;
+        }
+        !self.text.as_slice().contains(&13)
+    }
+}

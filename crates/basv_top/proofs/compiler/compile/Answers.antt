@@ -13,4 +13,4 @@ pub returns-clause-headline : goal.returns-clause-headline
 returns-clause-headline c =
     let accepted = is_accepted c.args.bytes.now _ _ _ c.if-bytes.false c.in_ok-lines.ensures.ok c.deref.ensures.value c.in_ok-program.ensures.ok in
     let words = c.deref-3.ensures.value ∙ c.in_ok-words.ensures ∙ ap code_of c.deref-2.ensures.value in
-    compiles c.args.bytes.now _ _ _ accepted words c.in_ok-contents.ensures
+    compiles c.args.bytes.now _ _ _ accepted words c.in_ok-contents.ensures.image

@@ -1,0 +1,28 @@
+ghost use Rattle.std.specs.Prelude.{◌≡◌, ◌≢◌, ◌⊎◌, List};
+ghost use Rattle.basv_top.specs.declared.item.ProgramLine.{ProgramLine as Line};
+ghost use Rattle.basv_top.specs.declared.refusal.Refusal.{Refusal as Reason};
+ghost use Rattle.basv_top.specs.Grammar.{Accepted};
+ghost use Rattle.basv_top.specs.Refused.{Refused};
+
+use crate::top::{Status, basv};
+use bv_io::{NullSink, SureShelf};
+use std::alloc::Global;
+
+/// The law of the grammar: every file is accepted as exactly one program, or refused for exactly one reason.
+pub fn one_verdict(bytes: &[u8])
+    ensures accepted_or_refused { ((program : List Line) × Accepted bytes.now program) ⊎ ((reason : Reason) × Refused bytes.now reason) }
+    ensures accepted_once { (a b : List Line) → Accepted bytes.now a → Accepted bytes.now b → a ≡ b }
+    ensures refused_once { (a b : Reason) → Refused bytes.now a → Refused bytes.now b → a ≡ b }
+    ensures never_both { (program : List Line) (reason : Reason) → Accepted bytes.now program → Refused bytes.now reason → ⊥ }
+{
+}
+
+/// The program over a shelf in memory that never fails: its status is neither of the two faults.
+pub fn basv_in_memory(alloc: Global, words: &[String], shelf: &mut SureShelf) -> Status
+    ensures no_read_fault { result ≢ Status.ReadFault }
+    ensures no_write_fault { result ≢ Status.WriteFault }
+{
+    let mut out = NullSink::new();
+    let mut err = NullSink::new();
+    basv(alloc, words, shelf, &mut out, &mut err)
+}

@@ -1,0 +1,31 @@
+ghost use Rattle.std.specs.Prelude.{◌≡◌, ◌++◌, All, IfOk, OnOk};
+ghost use Rattle.token_file.specs.Lines.{IsLine, record_of, Lines, HasOneReading};
+
+use crate::line::Line;
+use bv_io::NoMemory;
+use std::alloc::{AllocError, Global};
+
+fn push_record(bytes: &mut Vec<u8>, line: &Line) -> Result<(), AllocError>
+    requires { IsLine line.now }
+    ensures { OnOk result (bytes.new.items ≡ bytes.old.items ++ record_of line.now) }
+{
+    let size = line.text.len() as u8 + 4;
+    let [high, low] = line.number.to_be_bytes();
+    bytes.extend_from_slice(&[13, high, low, size])?;
+    bytes.extend_from_slice(line.text.as_slice())
+}
+
+/// The file of these lines, each of which has a number and a text that a record can hold. Reading it gives the same
+/// lines.
+pub fn write_file(alloc: Global, lines: &[Line]) -> Result<Vec<u8>, NoMemory>
+    requires { All IsLine lines.now }
+    ensures lines { IfOk result (λ bytes. Lines bytes.items lines.now) }
+    ensures reading { IfOk result (λ bytes. HasOneReading bytes.items lines.now) }
+{
+    let mut bytes = Vec::new(alloc);
+    for line in lines {
+        push_record(&mut bytes, line)?;
+    }
+    bytes.extend_from_slice(&[13, 255])?;
+    Ok(bytes)
+}
