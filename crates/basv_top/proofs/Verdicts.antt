@@ -1,5 +1,5 @@
 -- Every file is accepted as a program, or refused for a reason.
-use Rattle.std.proofs.Common.{◌≡◌, ◌≢◌, ◌⊎◌, inl, inr, ℕ, ◌+◌, ◌<◌, ◌≤◌, min, List, [], ◌∷◌, ◌++◌, length, refl, sym, ap, subst, ◌∙◌, arith}
+use Rattle.std.proofs.Common.{◌≡◌, ◌≢◌, ◌⊎◌, inl, inr, ℕ, ◌+◌, min, List, [], ◌∷◌, ◌++◌, length, refl, ap, subst, ◌∙◌, arith}
 use Rattle.std.specs.List.{AllByRecursion}
 use Rattle.token_file.specs.declared.line.Line.{Line}
 use Rattle.token_file.proofs.Decided.{Decided, decide_eq, decide_lt, every_file_is_read}
@@ -89,6 +89,7 @@ decide_front (c ∷ cs) =
     not_end : c ≢ TOKEN_VDU → (without_spaces cs ≡ [] → ⊥) → (item : Item) → IsFront (c ∷ cs) item → ⊥
     not_end not_vdu more (Vdu n) f = not_vdu (same_head _ _ _ _ f.1)
     not_end not_vdu more End f = more (ap without_spaces (same_tail _ _ _ _ f.1) ∙ f.2)
+
     neither : c ≢ TOKEN_VDU → c ≢ TOKEN_END → (item : Item) → IsFront (c ∷ cs) item → ⊥
     neither not_vdu not_end_token (Vdu n) f = not_vdu (same_head _ _ _ _ f.1)
     neither not_vdu not_end_token End f = not_end_token (same_head _ _ _ _ f.1)
@@ -102,16 +103,19 @@ decide_item text =
 
 behind_item : (line : Line) (item : Item) (lines : List Line) → Parses line.text item → ((p : List ProgramLine) × ParsesAll lines p) ⊎ ((n : ℕ) × FirstOutside lines n) → ((p : List ProgramLine) × ParsesAll (line ∷ lines) p) ⊎ ((n : ℕ) × FirstOutside (line ∷ lines) n)
 behind_item line item lines is (inl p) = inl (record { number = line.number; item = item } ∷ p.0, (refl, is, p.1))
-behind_item line item lines is (inr (n, f)) = inr (n, record {
-  before = line ∷ f.before;
-  items = record { number = line.number; item = item } ∷ f.items;
-  line = f.line;
-  after = f.after;
-  split = ap (λ l. line ∷ l) f.split;
-  parsed = (refl, is, f.parsed);
-  outside = f.outside;
-  is_number = f.is_number;
-})
+behind_item line item lines is (inr (n, f)) = inr (
+  n,
+  record {
+    before = line ∷ f.before;
+    items = record { number = line.number; item = item } ∷ f.items;
+    line = f.line;
+    after = f.after;
+    split = ap (λ l. line ∷ l) f.split;
+    parsed = (refl, is, f.parsed);
+    outside = f.outside;
+    is_number = f.is_number;
+  },
+)
 
 decide_lines : (lines : List Line) → ((p : List ProgramLine) × ParsesAll lines p) ⊎ ((n : ℕ) × FirstOutside lines n)
 decide_lines [] = inl ([], tt)

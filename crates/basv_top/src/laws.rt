@@ -14,8 +14,7 @@ pub fn one_verdict(bytes: &[u8])
     ensures accepted_once { (a b : List Line) → Accepted bytes.now a → Accepted bytes.now b → a ≡ b }
     ensures refused_once { (a b : Reason) → Refused bytes.now a → Refused bytes.now b → a ≡ b }
     ensures never_both { (program : List Line) (reason : Reason) → Accepted bytes.now program → Refused bytes.now reason → ⊥ }
-{
-}
+{}
 
 /// The program over a shelf in memory that never fails: its status is neither of the two faults.
 pub fn basv_in_memory(alloc: Global, words: &[String], shelf: &mut SureShelf) -> Status

@@ -5,7 +5,9 @@ use crate::laws::basv_in_memory;
 use crate::refusal::{FILE_BYTES, Refusal, Which};
 use crate::top::{Status, basv};
 use arm2_machine::{Board, ImageError, read_image, write_image};
-use bv_io::{MemShelf, MemSink, NullSink, Report, RunEnd, Shelf, Sink, SinkFault, SureShelf, TakeError, Trap};
+use bv_io::{
+    MemShelf, MemSink, NullSink, Report, RunEnd, Shelf, Sink, SinkFault, SureShelf, TakeError, Trap,
+};
 use sqlite_items::Items;
 use std::alloc::{AllocError, Global};
 use std::test::Fail;
@@ -15,8 +17,7 @@ use token_file::{FileError, Line, read_file, write_file};
 const VDU_65: &[u8] = b"\x0d\x00\x0a\x08\xef 65\x0d\xff";
 
 /// The image of `10VDU 65`.
-const VDU_65_IMAGE: &[u8] =
-    b"BVA2\x04\0\0\0\x41\0\xa0\xe3\0\0\0\xef\0\0\xa0\xe3\x11\0\0\xef";
+const VDU_65_IMAGE: &[u8] = b"BVA2\x04\0\0\0\x41\0\xa0\xe3\0\0\0\xef\0\0\xa0\xe3\x11\0\0\xef";
 
 fn to_words(alloc: Global, words: &[&str]) -> Result<Vec<String>, AllocError> {
     let mut all = Vec::new(alloc);
@@ -53,9 +54,18 @@ fn programs_run_as_they_should(rt: HostRuntime) -> Result<(), Fail> {
         (VDU_65, b"A"),
         (b"\x0d\xff", b""),
         (b"\x0d\xffanything", b""),
-        (b"\x0d\x00\x0a\x08\xef 66\x0d\x00\x05\x07\xef65\x0d\xff", b"BA"),
-        (b"\x0d\x00\x0a\x08\xef 65\x0d\x00\x14\x05\xe0\x0d\x00\x1e\x08\xef 66\x0d\xff", b"A"),
-        (b"\x0d\xfe\xff\x10  \xef  00010  \x0d\x00\x01\x07 \xe0 \x0d\xff", b"\x0a"),
+        (
+            b"\x0d\x00\x0a\x08\xef 66\x0d\x00\x05\x07\xef65\x0d\xff",
+            b"BA",
+        ),
+        (
+            b"\x0d\x00\x0a\x08\xef 65\x0d\x00\x14\x05\xe0\x0d\x00\x1e\x08\xef 66\x0d\xff",
+            b"A",
+        ),
+        (
+            b"\x0d\xfe\xff\x10  \xef  00010  \x0d\x00\x01\x07 \xe0 \x0d\xff",
+            b"\x0a",
+        ),
     ];
     for (file, output) in table {
         let mut shelf = MemShelf::new(alloc);
@@ -80,13 +90,41 @@ fn files_are_refused(rt: HostRuntime) -> Result<(), Fail> {
     };
     let table: [(&[u8], Refusal, Status); 9] = [
         (b"", Refusal::Malformed { at: 0 }, Status::Malformed),
-        (b"\x0d\x00\x0a\x07\xf1", Refusal::Malformed { at: 0 }, Status::Malformed),
-        (b"\x0d\x00\x0a\x04\x0d\x00\x0a\x03\x0d\xff", Refusal::Malformed { at: 4 }, Status::Malformed),
-        (b"\x0d\x00\x0a\x07\xf1 5\x0d\xff", Refusal::Outside { line: 10 }, Status::Outside),
-        (b"\x0d\x00\x0a\x05\xe0\x0d\x01\x02\x05A\x0d\x00\x14\x05B\x0d\xff", Refusal::Outside { line: 258 }, Status::Outside),
-        (b"\x0d\x00\x0a\x08\xef256\x0d\xff", Refusal::Outside { line: 10 }, Status::Outside),
-        (b"\x0d\x00\x0a\x06\xef \x0d\xff", Refusal::Outside { line: 10 }, Status::Outside),
-        (b"\x0d\x00\x0a\x09\xef6 5 \x0d\xff", Refusal::Outside { line: 10 }, Status::Outside),
+        (
+            b"\x0d\x00\x0a\x07\xf1",
+            Refusal::Malformed { at: 0 },
+            Status::Malformed,
+        ),
+        (
+            b"\x0d\x00\x0a\x04\x0d\x00\x0a\x03\x0d\xff",
+            Refusal::Malformed { at: 4 },
+            Status::Malformed,
+        ),
+        (
+            b"\x0d\x00\x0a\x07\xf1 5\x0d\xff",
+            Refusal::Outside { line: 10 },
+            Status::Outside,
+        ),
+        (
+            b"\x0d\x00\x0a\x05\xe0\x0d\x01\x02\x05A\x0d\x00\x14\x05B\x0d\xff",
+            Refusal::Outside { line: 258 },
+            Status::Outside,
+        ),
+        (
+            b"\x0d\x00\x0a\x08\xef256\x0d\xff",
+            Refusal::Outside { line: 10 },
+            Status::Outside,
+        ),
+        (
+            b"\x0d\x00\x0a\x06\xef \x0d\xff",
+            Refusal::Outside { line: 10 },
+            Status::Outside,
+        ),
+        (
+            b"\x0d\x00\x0a\x09\xef6 5 \x0d\xff",
+            Refusal::Outside { line: 10 },
+            Status::Outside,
+        ),
         (long.as_slice(), limit, Status::Limit),
     ];
     for (file, refusal, status) in table {
@@ -116,7 +154,11 @@ fn shelves_fail(rt: HostRuntime) -> Result<(), Fail> {
         assert_eq!(rt; got, status);
     }
     let mut shelf = MemShelf::new(alloc);
-    for words in [["list", "f", "i"], ["compile", "-f", "i"], ["compile", "f", "--"]] {
+    for words in [
+        ["list", "f", "i"],
+        ["compile", "-f", "i"],
+        ["compile", "f", "--"],
+    ] {
         let got = status_of(alloc, &words, &mut shelf)?;
         assert_eq!(rt; got, Status::Usage);
     }
@@ -124,7 +166,10 @@ fn shelves_fail(rt: HostRuntime) -> Result<(), Fail> {
     let mut sure = SureShelf::new(alloc);
     sure.add("-", VDU_65)?;
     let words = to_words(alloc, &["compile", "-", "i"])?;
-    assert_eq!(rt; basv_in_memory(alloc, words.as_slice(), &mut sure), Status::Done);
+    assert_eq!(rt;
+        basv_in_memory(alloc, words.as_slice(), &mut sure),
+        Status::Done
+    );
     let image = sure.take(alloc, "i", 24)?;
     assert_eq!(rt; image.as_slice(), VDU_65_IMAGE);
     Ok(())
@@ -152,7 +197,10 @@ fn images_are_read_back(rt: HostRuntime) -> Result<(), Fail> {
     }
     let long = read_image(alloc, b"BVA2\x01\0\x20\0");
     assert!(rt; matches!(long, Err(ImageError::TooLong)));
-    assert_eq!(rt; read_image(alloc, image.as_slice())?.as_slice(), [0xe600_0010].as_slice());
+    assert_eq!(rt;
+        read_image(alloc, image.as_slice())?.as_slice(),
+        [0xe600_0010].as_slice()
+    );
     let (end, written) = run_image(alloc, image.as_slice())?;
     let broken = RunEnd::Broken {
         kind: Trap::Undefined,
@@ -203,7 +251,10 @@ fn files_are_read_back(rt: HostRuntime) -> Result<(), Fail> {
         let expected = matches!(got, Err(FileError::Malformed { at: place }) if place == at);
         assert!(rt; expected, "the first {length} bytes");
     }
-    for file in [b"\x0d\x00\x0a\x03\xef 65\x0d\xff", b"\x0d\x00\x0a\x08\xef 6\x0d\x0d\xff"] {
+    for file in [
+        b"\x0d\x00\x0a\x03\xef 65\x0d\xff",
+        b"\x0d\x00\x0a\x08\xef 6\x0d\x0d\xff",
+    ] {
         let got = read_file(alloc, file);
         assert!(rt; matches!(got, Err(FileError::Malformed { at: 0 })));
     }

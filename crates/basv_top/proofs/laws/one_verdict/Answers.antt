@@ -10,5 +10,5 @@ returns c =
       accepted_or_refused = accepted_or_refused bytes;
       accepted_once = accepted_once bytes;
       refused_once = refused_once bytes;
-      never_both = accepted≢refused bytes
+      never_both = accepted≢refused bytes;
     }
