@@ -24,6 +24,23 @@ pub record WritesImage {S : Type 0} (content : S → List ℕ → Option (Option
   pub held : Tells (content new image) (Some contents)
   pub compiled : CompilesTo bytes contents
 
+-- the number of a status, as a process ends with it
+abbrev pub status_number : Status → ℕ
+status_number statuses.Done = 0
+status_number statuses.Usage = 1
+status_number statuses.Malformed = 2
+status_number statuses.Outside = 3
+status_number statuses.Limit = 4
+status_number statuses.ReadFault = 5
+status_number statuses.WriteFault = 6
+status_number statuses.NotImage = 7
+status_number statuses.Failed = 8
+status_number statuses.Bound = 9
+status_number statuses.NoMemory = 10
+status_number statuses.Stray = 11
+status_number statuses.InputEnded = 12
+status_number statuses.Broken = 13
+
 -- the status of a refusal
 abbrev pub status_of : Refusal → Status
 status_of (refusals.Malformed at) = statuses.Malformed

@@ -48,8 +48,12 @@ pub enum Status {
 }
 
 impl Status {
+    ghost use Rattle.basv_top.specs.Top.{status_number};
+
     /// The number of the status, as a process ends with it.
-    pub fn code(self) -> u8 {
+    pub fn code(self) -> u8
+        ensures { result ≡ status_number self }
+    {
         self as u8
     }
 }

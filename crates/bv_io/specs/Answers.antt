@@ -2,13 +2,13 @@
 use Rattle.std.specs.Prelude.{◌≡◌, ℕ, ◌≤◌, List, length, Option, Some, None, Result, Ok, Err, Vec}
 use Rattle.std.proofs.Common.{Global}
 use Rattle.bv_io.specs.declared.shelf.TakeError.{TakeError}
-use Rattle.bv_io.specs.declared.shelf.TakeError.TheVariants as take_error
+use Rattle.bv_io.specs.declared.shelf.TakeError.TheVariants as take_errors
 use Rattle.bv_io.specs.Shelf.{TellsMore}
 
 -- what a content, or its absence, answers to a caller that takes at most so many bytes
 abbrev pub AnswersContent : Option (List ℕ) → ℕ → Result (Vec ℕ Global) TakeError → Type 0
 AnswersContent content max (Ok bytes) = (content ≡ Some bytes.items) × (length bytes.items ≤ max)
-AnswersContent content max (Err take_error.Missing) = content ≡ None
-AnswersContent content max (Err take_error.TooLong) = TellsMore (Some content) max
-AnswersContent content max (Err take_error.Failed) = ⊥
-AnswersContent content max (Err take_error.NoMemory) = Unit {0}
+AnswersContent content max (Err take_errors.Missing) = content ≡ None
+AnswersContent content max (Err take_errors.TooLong) = TellsMore (Some content) max
+AnswersContent content max (Err take_errors.Failed) = ⊥
+AnswersContent content max (Err take_errors.NoMemory) = Unit {0}

@@ -4,9 +4,9 @@ use Rattle.std.proofs.Common.{Global}
 use Rattle.std.specs.Coded.{Coded, code_by, coded×, coded_ℕ, coded_list}
 use Rattle.std.specs.FinMap as map
 use Rattle.bv_io.specs.declared.shelf.TakeError.{TakeError}
-use Rattle.bv_io.specs.declared.shelf.TakeError.TheVariants as take_error
+use Rattle.bv_io.specs.declared.shelf.TakeError.TheVariants as take_errors
 use Rattle.bv_io.specs.declared.shelf.PutError.{PutError}
-use Rattle.bv_io.specs.declared.shelf.PutError.TheVariants as put_error
+use Rattle.bv_io.specs.declared.shelf.PutError.TheVariants as put_errors
 use Rattle.bv_io.specs.Files.{Held, held_code}
 use Rattle.bv_io.specs.Shelf.{counted}
 use Rattle.bv_io.specs.Answers.{AnswersContent}
@@ -46,12 +46,12 @@ FailsNext s = Contains s.failing (next_call s)
 
 -- What a take answers and leaves. It fails just where it is to fail, and a take without memory is no call.
 abbrev pub TakesFrom : MemShelfState → List ℕ → ℕ → Result (Vec ℕ Global) TakeError → MemShelfState → Type 0
-TakesFrom old name max (Err take_error.Failed) new = FailsNext old × (new ≡ record (called old) { take_faults = counted old.take_faults })
-TakesFrom old name max (Err take_error.NoMemory) new = ¬ FailsNext old × (new ≡ old)
+TakesFrom old name max (Err take_errors.Failed) new = FailsNext old × (new ≡ record (called old) { take_faults = counted old.take_faults })
+TakesFrom old name max (Err take_errors.NoMemory) new = ¬ FailsNext old × (new ≡ old)
 TakesFrom old name max answer new = ¬ FailsNext old × (new ≡ called old) × AnswersContent (map.get old.held name) max answer
 
 -- What a put answers and leaves. It fails just where it is to fail, and a put without memory is no call.
 abbrev pub PutsInto : MemShelfState → List ℕ → List ℕ → Result Unit PutError → MemShelfState → Type 0
 PutsInto old name bytes (Ok _) new = ¬ FailsNext old × (new ≡ record (called old) { held = map.insert old.held name bytes })
-PutsInto old name bytes (Err put_error.Failed) new = FailsNext old × (new ≡ record (called old) { put_faults = counted old.put_faults })
-PutsInto old name bytes (Err put_error.NoMemory) new = ¬ FailsNext old × (new ≡ old)
+PutsInto old name bytes (Err put_errors.Failed) new = FailsNext old × (new ≡ record (called old) { put_faults = counted old.put_faults })
+PutsInto old name bytes (Err put_errors.NoMemory) new = ¬ FailsNext old × (new ≡ old)

@@ -61,6 +61,7 @@ pub trait Shelf {
         ensures calm { IsErrOf result TakeError.Missing → take_faults self.new ≡ take_faults self.old }
         ensures too_long { IsErrOf result TakeError.TooLong → TellsMore (content self.old name.now) max }
         ensures failed { IsErrOf result TakeError.Failed → Rose (take_faults self.old) (take_faults self.new) }
+        ensures no_memory { IsErrOf result TakeError.NoMemory → take_faults self.new ≡ take_faults self.old }
 
         // A take changes no content, and neither count falls.
         ensures same { (n : List ℕ) → content self.new n ≡ content self.old n }
