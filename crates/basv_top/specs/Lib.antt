@@ -7,3 +7,4 @@ pub mod Code
 pub mod Command
 pub mod Meant
 pub mod Top
+pub mod InMemory

@@ -1,8 +1,11 @@
-ghost use Rattle.std.specs.Prelude.{◌≡◌, ◌≢◌, ◌⊎◌, List};
+ghost use Rattle.std.specs.Prelude.{◌≡◌, ◌≢◌, ◌⊎◌, List, map, string_bytes};
 ghost use Rattle.basv_top.specs.declared.item.ProgramLine.{ProgramLine as Line};
 ghost use Rattle.basv_top.specs.declared.refusal.Refusal.{Refusal as Reason};
 ghost use Rattle.basv_top.specs.Grammar.{Accepted};
 ghost use Rattle.basv_top.specs.Refused.{Refused};
+ghost use Rattle.basv_top.specs.Command.{command_of};
+ghost use Rattle.basv_top.specs.InMemory.{sure_content, no_faults};
+ghost use Rattle.basv_top.specs.Top.{Explains};
 
 use crate::top::{Status, basv};
 use bv_io::{NullSink, SureShelf};
@@ -16,8 +19,10 @@ pub fn one_verdict(bytes: &[u8])
     ensures never_both { (program : List Line) (reason : Reason) → Accepted bytes.now program → Refused bytes.now reason → ⊥ }
 {}
 
-/// The program over a shelf in memory that never fails: its status is neither of the two faults.
+/// The program over a shelf in memory that never fails. Its status has its cause, and is neither of the two faults.
 pub fn basv_in_memory(alloc: Global, words: &[String], shelf: &mut SureShelf) -> Status
+    ensures causes { Explains sure_content no_faults no_faults shelf.old shelf.new
+        (command_of (map string_bytes words.now)) result }
     ensures no_read_fault { result ≢ Status.ReadFault }
     ensures no_write_fault { result ≢ Status.WriteFault }
 {
