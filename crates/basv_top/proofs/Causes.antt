@@ -1,5 +1,5 @@
 -- The causes of refusals and statuses exclude each other.
-use Rattle.std.proofs.Common.{◌≡◌, ◌⊎◌, inl, inr, ℕ, ◌+◌, ◌<◌, ◌≤◌, List, [], ◌∷◌, ◌++◌, length, Option, Some, None, unwrap_or, Result, Ok, Err, IsErrAnd, refl, sym, ap, subst, ◌∙◌, arith}
+use Rattle.std.proofs.Common.{◌≡◌, ◌⊎◌, inl, inr, ℕ, ◌+◌, ◌<◌, ◌≤◌, List, [], ◌∷◌, ◌++◌, length, Option, Some, None, unwrap_or, Result, Ok, Err, IsErrAnd, refl, sym, ap, subst, ◌∙◌, arith, Vec, Global, IfOk, IfErr, IsOkUnless}
 use Rattle.bv_io.specs.Shelf.{Rose, Tells, TellsMore}
 use Rattle.token_file.specs.declared.line.Line.{Line}
 use Rattle.token_file.specs.Lines.{Lines, Malformed}
@@ -13,6 +13,7 @@ use Rattle.basv_top.specs.declared.refusal.Which.TheVariants as limits
 use Rattle.basv_top.specs.declared.refusal.TheConstants.{FILE_BYTES}
 use Rattle.basv_top.specs.declared.top.Status.{Status}
 use Rattle.basv_top.specs.declared.top.Status.TheVariants as statuses
+use Rattle.basv_top.specs.Correct.{CompilesTo}
 use Rattle.basv_top.specs.Command.{Command, Compile}
 use Rattle.basv_top.specs.Grammar.{Parses, ParsesAll, Accepted}
 use Rattle.basv_top.specs.Refused.{FirstOutside, IsOutside, Refused, Explained}
@@ -88,6 +89,22 @@ accepted≢refused bytes p (refusals.Outside line) accepted refused =
     no_program refused.first.before refused.first.line refused.first.after p refused.first.outside (subst (λ l. ParsesAll l p) (lines ∙ refused.first.split) accepted.parsed)
 accepted≢refused bytes p (refusals.Limit which count) accepted refused = let long = only_file bytes which count refused in omega (arith, accepted.short, long.0)
 accepted≢refused bytes p refusals.NoMemory accepted refused = refused
+
+-- what the compiler answers of an accepted file
+pub compiles_accepted : {A : Type 0} (bytes : List ℕ) (answer : Result A Refusal) (p : List ProgramLine) → IfErr answer (Explained bytes) → Accepted bytes p → IsOkUnless answer refusals.NoMemory
+compiles_accepted bytes (Ok contents) p explained accepted = tt
+compiles_accepted bytes (Err refusals.NoMemory) p explained accepted = refl
+compiles_accepted bytes (Err (refusals.Malformed at)) p explained accepted = absurd (accepted≢refused bytes p (refusals.Malformed at) accepted explained)
+compiles_accepted bytes (Err (refusals.Outside line)) p explained accepted = absurd (accepted≢refused bytes p (refusals.Outside line) accepted explained)
+compiles_accepted bytes (Err (refusals.Limit which count)) p explained accepted = absurd (accepted≢refused bytes p (refusals.Limit which count) accepted explained)
+
+-- what the compiler answers of a refused file
+pub refuses_refused : (bytes : List ℕ) (answer : Result (Vec ℕ Global) Refusal) (r : Refusal) → IfOk answer (λ contents. CompilesTo bytes contents.items) → IfErr answer (Explained bytes) → Refused bytes r → IsErrAnd answer (λ e. (e ≡ r) ⊎ (e ≡ refusals.NoMemory))
+refuses_refused bytes (Ok contents) r compiled explained refused = accepted≢refused bytes compiled.program r compiled.accepted refused
+refuses_refused bytes (Err refusals.NoMemory) r compiled explained refused = inr refl
+refuses_refused bytes (Err (refusals.Malformed at)) r compiled explained refused = inl (refused_once bytes (refusals.Malformed at) r explained refused)
+refuses_refused bytes (Err (refusals.Outside line)) r compiled explained refused = inl (refused_once bytes (refusals.Outside line) r explained refused)
+refuses_refused bytes (Err (refusals.Limit which count)) r compiled explained refused = inl (refused_once bytes (refusals.Limit which count) r explained refused)
 
 -- what is told of a name is the content that it holds
 told_is : (told : Option (Option (List ℕ))) (bytes given : List ℕ) → told ≡ Some (Some bytes) → Tells told (Some given) → given ≡ bytes

@@ -1,6 +1,9 @@
-ghost use Rattle.std.specs.Prelude.{◌≡◌, IfOk, IfErr};
+ghost use Rattle.std.specs.Prelude.{◌≡◌, ◌⊎◌, List, IfOk, IfErr, IsOkUnless, IsErrAnd};
 ghost use Rattle.basv_top.specs.Correct.{CompilesTo};
-ghost use Rattle.basv_top.specs.Refused.{Explained, refusal_of};
+ghost use Rattle.basv_top.specs.Grammar.{Accepted};
+ghost use Rattle.basv_top.specs.Refused.{Refused, Explained};
+ghost use Rattle.basv_top.specs.declared.item.ProgramLine.{ProgramLine as Line};
+ghost use Rattle.basv_top.specs.declared.refusal.Refusal.{Refusal as Reason};
 
 use crate::code::generate;
 use crate::parse::parse_lines;
@@ -23,8 +26,7 @@ impl From<FileError> for Refusal {
     }
 }
 
-/// The image file of a tokenised program, which does what the program does.
-pub fn compile(alloc: Global, bytes: &[u8]) -> Result<Vec<u8>, Refusal>
+fn build_image(alloc: Global, bytes: &[u8]) -> Result<Vec<u8>, Refusal>
     ensures headline { IfOk result (λ contents. CompilesTo bytes.now contents.items) }
     ensures refused { IfErr result (Explained bytes.now) }
 {
@@ -39,4 +41,17 @@ pub fn compile(alloc: Global, bytes: &[u8]) -> Result<Vec<u8>, Refusal>
     let words = generate(alloc, &program)?;
     let contents = write_image(alloc, &words)?;
     Ok(contents)
+}
+
+/// The image file of a tokenised program, which does what the program does.
+pub fn compile(alloc: Global, bytes: &[u8]) -> Result<Vec<u8>, Refusal>
+    ensures headline { IfOk result (λ contents. CompilesTo bytes.now contents.items) }
+    ensures refused { IfErr result (Explained bytes.now) }
+
+    // An accepted file is compiled, and a refused one refused for its reason, where there is memory.
+    ensures complete { (program : List Line) → Accepted bytes.now program → IsOkUnless result Refusal.NoMemory }
+    ensures exact { (reason : Reason) → Refused bytes.now reason
+        → IsErrAnd result (λ error. (error ≡ reason) ⊎ (error ≡ Refusal.NoMemory)) }
+{
+    build_image(alloc, bytes)
 }

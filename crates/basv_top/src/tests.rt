@@ -86,6 +86,7 @@ fn writes(alloc: Global, file: &[u8], output: &[u8]) -> Result<bool, Fail> {
 fn programs_run_as_they_should(rt: HostRuntime) -> Result<(), Fail> {
     let alloc = rt.alloc();
     assert!(rt; writes(alloc, VDU_65, b"A")?);
+    assert!(rt; writes(alloc, b"\x0d\xff", b"")?);
     assert!(rt; writes(alloc, b"\x0d\xffanything", b"")?);
     assert!(rt;
         writes(
