@@ -1,0 +1,3 @@
+pub mod Computed
+mod References
+mod Tables
