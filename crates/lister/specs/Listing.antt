@@ -1,0 +1,65 @@
+-- The listing of a line, as Acorn's LIST shows it. What stands in place of bytes that are no token is this project's own.
+use Rattle.std.specs.Prelude.{ℕ, zero, suc, ◌+◌, ◌-◌, ◌/◌, ◌%◌, Bool, true, false, ◌||◌, ◌==◌, nat_lt, not, List, [], ◌∷◌, ◌++◌, length, replicate, unwrap_or, codes, decimal, if◌then◌else◌}
+use Rattle.token_file.specs.declared.line.Line.{Line}
+use Rattle.bv_token.specs.Tokens.{begins_pair, keyword_of, keyword_of_token}
+use Rattle.bv_token.specs.References.{referred}
+
+-- a text at the right of so many columns
+abbrev pub justified : ℕ → List ℕ → List ℕ
+justified columns text = replicate (columns - length text) 32 ++ text
+
+-- the digit of a number below 16, with capital letters
+abbrev pub hex_digit : ℕ → ℕ
+hex_digit n = if nat_lt n 10 then n + 48 else n + 55
+
+-- the two hexadecimal digits of a byte
+abbrev pub hex_byte : ℕ → List ℕ
+hex_byte byte = hex_digit (byte / 16) ∷ hex_digit (byte % 16) ∷ []
+
+-- What the symbol at the front of a text lists as, and how many bytes behind its first one belong to it.
+pub record Shown : Type 0 where
+  pub text : List ℕ
+  pub taken : ℕ
+
+abbrev pub shown_as : List ℕ → ℕ → Shown
+shown_as text taken = record { text = text; taken = taken }
+
+-- a reference to a line is the line's number; where fewer than three bytes are left, the byte 141 stands for itself
+abbrev pub shown_reference : List ℕ → Shown
+shown_reference (a ∷ b ∷ c ∷ rest) = shown_as (decimal (referred a b c)) 3
+shown_reference (a ∷ b ∷ []) = shown_as (codes "<8D>") 0
+shown_reference (a ∷ []) = shown_as (codes "<8D>") 0
+shown_reference [] = shown_as (codes "<8D>") 0
+
+-- a pair is its keyword, or the digits of its two bytes; at the text's end its first byte stands for itself
+abbrev pub shown_pair : ℕ → List ℕ → Shown
+shown_pair first [] = shown_as (codes "<" ++ hex_byte first ++ codes ">") 0
+shown_pair first (second ∷ rest) =
+    shown_as (unwrap_or (keyword_of first second) (codes "<" ++ hex_byte first ++ codes " " ++ hex_byte second ++ codes ">")) 1
+
+-- a byte is its keyword if it is a token, or itself
+abbrev pub shown_byte : ℕ → List ℕ
+shown_byte byte = unwrap_or (keyword_of_token byte) (byte ∷ [])
+
+-- the tokens of REM and DATA, behind which all bytes stand as they are
+abbrev pub begins_tail : ℕ → Bool
+begins_tail byte = (byte == 244) || (byte == 220)
+
+-- the symbol at the front of a text, outside quotation marks
+abbrev pub shown : ℕ → List ℕ → Shown
+shown first rest =
+    if first == 141 then shown_reference rest
+    else if begins_pair first then shown_pair first rest
+    else if begins_tail first then shown_as (shown_byte first ++ rest) (length rest)
+    else shown_as (shown_byte first) 0
+
+-- a text as it lists, from inside quotation marks or outside them, where some of its first bytes were listed before
+abbrev pub listed : ℕ → Bool → List ℕ → List ℕ
+listed taken quoted [] = []
+listed (suc taken) quoted (byte ∷ rest) = listed taken quoted rest
+listed zero true (byte ∷ rest) = byte ∷ listed zero (not (byte == 34)) rest
+listed zero false (byte ∷ rest) = (shown byte rest).text ++ listed (shown byte rest).taken (byte == 34) rest
+
+-- a line's number in five columns, its text, and a new line
+abbrev pub listing : Line → List ℕ
+listing line = justified 5 (decimal line.number) ++ listed 0 false line.text ++ 10 ∷ []
