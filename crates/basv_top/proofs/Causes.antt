@@ -11,13 +11,15 @@ use Rattle.basv_top.specs.declared.refusal.Refusal.TheVariants as refusals
 use Rattle.basv_top.specs.declared.refusal.Which.{Which}
 use Rattle.basv_top.specs.declared.refusal.Which.TheVariants as limits
 use Rattle.basv_top.specs.declared.refusal.TheConstants.{FILE_BYTES}
-use Rattle.basv_top.specs.declared.top.Status.{Status}
-use Rattle.basv_top.specs.declared.top.Status.TheVariants as statuses
+use Rattle.basv_top.specs.declared.status.Status.TheVariants as statuses
+use Rattle.basv_top.specs.Command.{Command, Listing, Compile}
 use Rattle.basv_top.specs.Correct.{CompilesTo}
-use Rattle.basv_top.specs.Command.{Command, Compile}
+use Rattle.basv_top.specs.Ending as endings
+use Rattle.basv_top.specs.Ending.{Ending, status_of, refusal_status}
+use Rattle.basv_top.specs.Seen.{SeenShelf, SeenSink, Silent}
+use Rattle.basv_top.specs.Top.{GivesLines, Unlistable, GivesRefused, CannotRead, ExplainsCompile, ExplainsList, Explains, MayWrite}
 use Rattle.basv_top.specs.Grammar.{Parses, ParsesAll, Accepted}
 use Rattle.basv_top.specs.Refused.{FirstOutside, IsOutside, Refused, Explained}
-use Rattle.basv_top.specs.Top.{Explains, ExplainsCompile, status_of, ended}
 
 -- lines of which one is no item are no program
 no_program : (before : List Line) (line : Line) (after : List Line) (p : List ProgramLine) → ((item : Item) → Parses line.text item → ⊥) → ParsesAll (before ++ line ∷ after) p → ⊥
@@ -116,63 +118,98 @@ told_more told bytes max is more = subst (λ t. TellsMore t max) is more
 told_missing : (bytes : List ℕ) → Some (Some bytes) ≡ Some None → ⊥
 told_missing bytes e = let held : Some bytes ≡ None = ap (λ o. unwrap_or o None) e in cc
 
-module _ {S : Type 0} (content : S → List ℕ → Option (Option (List ℕ))) (take_faults put_faults : S → ℕ) (old new : S) where
-  -- a refusal of the content that was taken explains its status
-  pub explained_by_refusal : (file image bytes : List ℕ) (r : Refusal) (answer : Result Unit Status) → Tells (content old file) (Some bytes) → length bytes ≤ FILE_BYTES → Explained bytes r → IsErrAnd answer (λ s. s ≡ status_of r) → ExplainsCompile content take_faults put_faults old new file image (ended answer)
-  explained_by_refusal file image bytes r (Ok _) told fits explained is = absurd is
-  explained_by_refusal file image bytes r (Err status) told fits explained is =
-      subst (ExplainsCompile content take_faults put_faults old new file image) (sym is) (by_reason r explained)
-    where
-      by_reason : (r : Refusal) → Explained bytes r → ExplainsCompile content take_faults put_faults old new file image (status_of r)
-      by_reason (refusals.Malformed at) explained = (bytes, at, told, explained)
-      by_reason (refusals.Outside line) explained = (bytes, line, told, explained)
-      by_reason (refusals.Limit which count) explained = absurd (let long = only_file bytes which count explained in omega (arith, fits, long.0))
-      by_reason refusals.NoMemory explained = tt
+-- a refusal of the content that is told of a name
+given_reason : (rule : List ℕ → Refusal → Type 0) (content : Option (Option (List ℕ))) (bytes : List ℕ) (reason : Refusal) → content ≡ Some (Some bytes) → GivesRefused rule content reason → (reason ≡ refusals.NoMemory) ⊎ rule bytes reason
+given_reason rule content bytes refusals.NoMemory held given = inl refl
+given_reason rule content bytes (refusals.Malformed at) held given = inr (subst (λ b. rule b (refusals.Malformed at)) (told_is content bytes given.0 held given.1) given.2)
+given_reason rule content bytes (refusals.Outside line) held given = inr (subst (λ b. rule b (refusals.Outside line)) (told_is content bytes given.0 held given.1) given.2)
+given_reason rule content bytes (refusals.Limit which count) held given = inr (subst (λ b. rule b (refusals.Limit which count)) (told_is content bytes given.0 held given.1) given.2)
+
+-- a file that can't be listed is refused by the compiler for the same reason
+unlistable-refused : (bytes : List ℕ) (reason : Refusal) → Unlistable bytes reason → Refused bytes reason
+unlistable-refused bytes (refusals.Malformed at) why = why
+unlistable-refused bytes (refusals.Outside line) why = absurd why
+unlistable-refused bytes (refusals.Limit which count) why = why
+unlistable-refused bytes refusals.NoMemory why = absurd why
+
+-- a file that has lines can be listed
+listable : (bytes : List ℕ) (lines : List Line) (reason : Refusal) → length bytes ≤ FILE_BYTES → Lines bytes lines → Unlistable bytes reason → ⊥
+listable bytes lines (refusals.Malformed at) short read why = malformed_has_no_lines bytes at lines why.1 read
+listable bytes lines (refusals.Outside line) short read why = why
+listable bytes lines (refusals.Limit which count) short read why = let long = only_file bytes which count why in omega (arith, short, long.0)
+listable bytes lines refusals.NoMemory short read why = why
+
+module _ (before after : SeenShelf) where
+  -- a name that is held and that the shelf did not fail to give can be read
+  can_read : (file bytes : List ℕ) → before.content file ≡ Some (Some bytes) → (Rose before.take_faults after.take_faults → ⊥) → CannotRead before after file → ⊥
+  can_read file bytes held calm (inl missing) = told_missing bytes (sym held ∙ missing)
+  can_read file bytes held calm (inr rose) = calm rose
 
   -- an accepted file is compiled, where nothing failed
-  pub accepted_is_done : (file image bytes : List ℕ) (p : List ProgramLine) (status : Status) → ExplainsCompile content take_faults put_faults old new file image status → content old file ≡ Some (Some bytes) → Accepted bytes p → (Rose (take_faults old) (take_faults new) → ⊥) → (Rose (put_faults old) (put_faults new) → ⊥) → (status ≡ statuses.Done) ⊎ (status ≡ statuses.NoMemory)
-  accepted_is_done file image bytes p statuses.Done e held accepted calm_take calm_put = inl refl
-  accepted_is_done file image bytes p statuses.NoMemory e held accepted calm_take calm_put = inr refl
-  accepted_is_done file image bytes p statuses.Malformed e held accepted calm_take calm_put =
-      absurd (accepted≢refused bytes p (refusals.Malformed e.1) accepted (subst (λ b. Refused b (refusals.Malformed e.1)) (told_is _ bytes e.0 held e.2) e.3))
-  accepted_is_done file image bytes p statuses.Outside e held accepted calm_take calm_put =
-      absurd (accepted≢refused bytes p (refusals.Outside e.1) accepted (subst (λ b. Refused b (refusals.Outside e.1)) (told_is _ bytes e.0 held e.2) e.3))
-  accepted_is_done file image bytes p statuses.Limit e held accepted calm_take calm_put =
-      absurd (let long = told_more _ bytes FILE_BYTES held e in omega (arith, accepted.short, long))
-  accepted_is_done file image bytes p statuses.ReadFault e held accepted calm_take calm_put =
-      elim e [ inl missing ↦ absurd (told_missing bytes (sym held ∙ missing)) | inr rose ↦ absurd (calm_take rose) ]
-  accepted_is_done file image bytes p statuses.WriteFault e held accepted calm_take calm_put = absurd (calm_put e.4)
-  accepted_is_done file image bytes p statuses.Usage e held accepted calm_take calm_put = absurd e
-  accepted_is_done file image bytes p statuses.NotImage e held accepted calm_take calm_put = absurd e
-  accepted_is_done file image bytes p statuses.Failed e held accepted calm_take calm_put = absurd e
-  accepted_is_done file image bytes p statuses.Bound e held accepted calm_take calm_put = absurd e
-  accepted_is_done file image bytes p statuses.Stray e held accepted calm_take calm_put = absurd e
-  accepted_is_done file image bytes p statuses.InputEnded e held accepted calm_take calm_put = absurd e
-  accepted_is_done file image bytes p statuses.Broken e held accepted calm_take calm_put = absurd e
+  pub accepted_is_done : (file image bytes : List ℕ) (p : List ProgramLine) (ending : Ending) → ExplainsCompile before after file image ending → before.content file ≡ Some (Some bytes) → Accepted bytes p → (Rose before.take_faults after.take_faults → ⊥) → (Rose before.put_faults after.put_faults → ⊥) → (status_of ending ≡ statuses.Done) ⊎ (status_of ending ≡ statuses.NoMemory)
+  accepted_is_done file image bytes p endings.Done e held accepted calm_take calm_put = inl refl
+  accepted_is_done file image bytes p endings.Usage e held accepted calm_take calm_put = absurd e
+  accepted_is_done file image bytes p (endings.Refused reason) e held accepted calm_take calm_put =
+      elim (given_reason Refused (before.content file) bytes reason held e) [
+        | inl none ↦ inr (ap refusal_status none)
+        | inr why ↦ absurd (accepted≢refused bytes p reason accepted why)
+      ]
+  accepted_is_done file image bytes p (endings.ReadFault name) e held accepted calm_take calm_put = absurd (can_read file bytes held calm_take e.1)
+  accepted_is_done file image bytes p endings.WriteFault e held accepted calm_take calm_put = absurd (calm_put e.4)
 
   -- a refused file gives the status of its reason, where the shelf did not fail to give it
-  pub refused_is_told : (file image bytes : List ℕ) (r : Refusal) (status : Status) → ExplainsCompile content take_faults put_faults old new file image status → content old file ≡ Some (Some bytes) → Refused bytes r → (Rose (take_faults old) (take_faults new) → ⊥) → (status ≡ status_of r) ⊎ (status ≡ statuses.NoMemory)
-  refused_is_told file image bytes r statuses.NoMemory e held refused calm = inr refl
-  refused_is_told file image bytes r statuses.Done e held refused calm =
+  pub refused_is_told : (file image bytes : List ℕ) (r : Refusal) (ending : Ending) → ExplainsCompile before after file image ending → before.content file ≡ Some (Some bytes) → Refused bytes r → (Rose before.take_faults after.take_faults → ⊥) → (status_of ending ≡ refusal_status r) ⊎ (status_of ending ≡ statuses.NoMemory)
+  refused_is_told file image bytes r endings.Done e held refused calm =
       absurd (accepted≢refused bytes e.compiled.program r (subst (λ b. Accepted b e.compiled.program) (told_is _ bytes e.bytes held e.given) e.compiled.accepted) refused)
-  refused_is_told file image bytes r statuses.Malformed e held refused calm =
-      inl (ap status_of (refused_once bytes (refusals.Malformed e.1) r (subst (λ b. Refused b (refusals.Malformed e.1)) (told_is _ bytes e.0 held e.2) e.3) refused))
-  refused_is_told file image bytes r statuses.Outside e held refused calm =
-      inl (ap status_of (refused_once bytes (refusals.Outside e.1) r (subst (λ b. Refused b (refusals.Outside e.1)) (told_is _ bytes e.0 held e.2) e.3) refused))
-  refused_is_told file image bytes r statuses.Limit e held refused calm =
-      inl (ap status_of (refused_once bytes (refusals.Limit limits.File (FILE_BYTES + 1)) r (told_more _ bytes FILE_BYTES held e, refl) refused))
-  refused_is_told file image bytes r statuses.ReadFault e held refused calm =
-      elim e [ inl missing ↦ absurd (told_missing bytes (sym held ∙ missing)) | inr rose ↦ absurd (calm rose) ]
-  refused_is_told file image bytes r statuses.WriteFault e held refused calm =
+  refused_is_told file image bytes r endings.Usage e held refused calm = absurd e
+  refused_is_told file image bytes r (endings.Refused reason) e held refused calm =
+      elim (given_reason Refused (before.content file) bytes reason held e) [
+        | inl none ↦ inr (ap refusal_status none)
+        | inr why ↦ inl (ap refusal_status (refused_once bytes reason r why refused))
+      ]
+  refused_is_told file image bytes r (endings.ReadFault name) e held refused calm = absurd (can_read file bytes held calm e.1)
+  refused_is_told file image bytes r endings.WriteFault e held refused calm =
       absurd (accepted≢refused bytes e.1 r (subst (λ b. Accepted b e.1) (told_is _ bytes e.0 held e.2) e.3) refused)
-  refused_is_told file image bytes r statuses.Usage e held refused calm = absurd e
-  refused_is_told file image bytes r statuses.NotImage e held refused calm = absurd e
-  refused_is_told file image bytes r statuses.Failed e held refused calm = absurd e
-  refused_is_told file image bytes r statuses.Bound e held refused calm = absurd e
-  refused_is_told file image bytes r statuses.Stray e held refused calm = absurd e
-  refused_is_told file image bytes r statuses.InputEnded e held refused calm = absurd e
-  refused_is_told file image bytes r statuses.Broken e held refused calm = absurd e
 
-  -- what is explained of a command is explained of its names
-  pub explained_names : (command : Option Command) (file image : List ℕ) (status : Status) → command ≡ Some (Compile file image) → Explains content take_faults put_faults old new command status → ExplainsCompile content take_faults put_faults old new file image status
-  explained_names command file image status is e = subst (λ c. Explains content take_faults put_faults old new c status) is e
+  -- lines that were given are those of the content that is told
+  given_lines : (file bytes : List ℕ) (lines : List Line) → before.content file ≡ Some (Some bytes) → GivesLines before file lines → (length bytes ≤ FILE_BYTES) × Lines bytes lines
+  given_lines file bytes lines held given =
+      let same = told_is _ bytes given.bytes held given.given in
+      (subst (λ b. length b ≤ FILE_BYTES) same given.short, subst (λ b. Lines b lines) same given.read)
+
+  module _ (out_before out_after : SeenSink) where
+    -- a file that has lines is listed, where nothing failed
+    pub lines_are_listed : (file bytes : List ℕ) (lines : List Line) (ending : Ending) → ExplainsList before after out_before out_after file ending → before.content file ≡ Some (Some bytes) → length bytes ≤ FILE_BYTES → Lines bytes lines → (Rose before.take_faults after.take_faults → ⊥) → (Rose out_before.faults out_after.faults → ⊥) → (status_of ending ≡ statuses.Done) ⊎ (status_of ending ≡ statuses.NoMemory)
+    lines_are_listed file bytes lines endings.Done e held short read calm_take calm_out = inl refl
+    lines_are_listed file bytes lines endings.Usage e held short read calm_take calm_out = absurd e
+    lines_are_listed file bytes lines (endings.Refused reason) e held short read calm_take calm_out =
+        elim (given_reason Unlistable (before.content file) bytes reason held e.0) [
+          | inl none ↦ inr (ap refusal_status none)
+          | inr why ↦ absurd (listable bytes lines reason short read why)
+        ]
+    lines_are_listed file bytes lines (endings.ReadFault name) e held short read calm_take calm_out = absurd (can_read file bytes held calm_take e.1)
+    lines_are_listed file bytes lines endings.WriteFault e held short read calm_take calm_out = absurd (calm_out e.3)
+
+    -- a file that can't be listed gives the status of its reason, where the shelf did not fail to give it
+    pub unlistable_is_told : (file bytes : List ℕ) (r : Refusal) (ending : Ending) → ExplainsList before after out_before out_after file ending → before.content file ≡ Some (Some bytes) → Unlistable bytes r → (Rose before.take_faults after.take_faults → ⊥) → (status_of ending ≡ refusal_status r) ⊎ (status_of ending ≡ statuses.NoMemory)
+    unlistable_is_told file bytes r endings.Done e held unlistable calm =
+        absurd (let given = given_lines file bytes e.0 held e.1 in listable bytes e.0 r given.0 given.1 unlistable)
+    unlistable_is_told file bytes r endings.Usage e held unlistable calm = absurd e
+    unlistable_is_told file bytes r (endings.Refused reason) e held unlistable calm =
+        elim (given_reason Unlistable (before.content file) bytes reason held e.0) [
+          | inl none ↦ inr (ap refusal_status none)
+          | inr why ↦ inl (ap refusal_status (refused_once bytes reason r (unlistable-refused bytes reason why) (unlistable-refused bytes r unlistable)))
+        ]
+    unlistable_is_told file bytes r (endings.ReadFault name) e held unlistable calm = absurd (can_read file bytes held calm e.1)
+    unlistable_is_told file bytes r endings.WriteFault e held unlistable calm =
+        absurd (let given = given_lines file bytes e.0 held e.1 in listable bytes e.0 r given.0 given.1 unlistable)
+
+    -- nothing is written but by a list that comes to write
+    pub silent_unless_listed : (command : Option Command) (ending : Ending) → Explains before after out_before out_after command ending → ((file : List ℕ) → command ≡ Some (Listing file) → MayWrite (status_of ending) → ⊥) → Silent out_before out_after
+    silent_unless_listed None ending e none = e.1
+    silent_unless_listed (Some (Compile file image)) ending e none = e.1
+    silent_unless_listed (Some (Listing file)) endings.Done e none = absurd (none file refl (inl refl))
+    silent_unless_listed (Some (Listing file)) endings.Usage e none = absurd e
+    silent_unless_listed (Some (Listing file)) (endings.Refused reason) e none = e.1
+    silent_unless_listed (Some (Listing file)) (endings.ReadFault name) e none = e.2
+    silent_unless_listed (Some (Listing file)) endings.WriteFault e none = absurd (none file refl (inr refl))

@@ -6,3 +6,5 @@ pub mod Simulation
 pub mod Compiled
 pub mod Causes
 pub mod Verdicts
+pub mod Written
+pub mod Endings

@@ -1,96 +1,108 @@
--- What the program's status says. This project's own.
-use Rattle.std.specs.Prelude.{◌≡◌, ℕ, List, Option, Some, None, Result, Ok, Err, ◌⊎◌}
-use Rattle.bv_io.specs.declared.shelf.TakeError.{TakeError}
-use Rattle.bv_io.specs.declared.shelf.TakeError.TheVariants as take_errors
-use Rattle.bv_io.specs.declared.shelf.PutError.{PutError}
-use Rattle.bv_io.specs.declared.shelf.PutError.TheVariants as put_errors
+-- What a command does, and why it ends as it does. This project's own.
+use Rattle.std.specs.Prelude.{◌≡◌, ◌⊎◌, ℕ, ◌+◌, ◌≤◌, List, length, flat_map, Option, Some, None}
 use Rattle.bv_io.specs.Shelf.{Rose, Tells, TellsMore}
+use Rattle.bv_io.specs.Sink.{with_bytes, WritesPart}
+use Rattle.token_file.specs.declared.line.Line.{Line}
+use Rattle.token_file.specs.Lines.{Lines}
+use Rattle.lister.specs.Listing.{listing}
 use Rattle.basv_top.specs.declared.item.ProgramLine.{ProgramLine}
 use Rattle.basv_top.specs.declared.refusal.Refusal.{Refusal}
 use Rattle.basv_top.specs.declared.refusal.Refusal.TheVariants as refusals
+use Rattle.basv_top.specs.declared.refusal.Which.TheVariants as limits
 use Rattle.basv_top.specs.declared.refusal.TheConstants.{FILE_BYTES}
-use Rattle.basv_top.specs.declared.top.Status.{Status}
-use Rattle.basv_top.specs.declared.top.Status.TheVariants as statuses
-use Rattle.basv_top.specs.Command.{Command, Compile}
+use Rattle.basv_top.specs.declared.status.Status.{Status}
+use Rattle.basv_top.specs.declared.status.Status.TheVariants as statuses
+use Rattle.basv_top.specs.Command.{Command, Listing, Compile}
 use Rattle.basv_top.specs.Correct.{CompilesTo}
+use Rattle.basv_top.specs.Ending.{Ending, Done, Usage, Refused, ReadFault, WriteFault, status_of, line_of}
 use Rattle.basv_top.specs.Grammar.{Accepted}
-use Rattle.basv_top.specs.Refused.{Refused}
+use Rattle.basv_top.specs.Refused as refused
+use Rattle.basv_top.specs.Seen.{SeenShelf, SeenSink, Silent, Writes}
 
 -- The shelf gave bytes under FILE, and then holds contents under IMAGE that these bytes compile to.
-pub record WritesImage {S : Type 0} (content : S → List ℕ → Option (Option (List ℕ))) (old new : S) (file image : List ℕ) : Type 0 where
+pub record WritesImage (before after : SeenShelf) (file image : List ℕ) : Type 0 where
   pub bytes : List ℕ
   pub contents : List ℕ
-  pub given : Tells (content old file) (Some bytes)
-  pub held : Tells (content new image) (Some contents)
+  pub given : Tells (before.content file) (Some bytes)
+  pub held : Tells (after.content image) (Some contents)
   pub compiled : CompilesTo bytes contents
 
--- the number of a status, as a process ends with it
-abbrev pub status_number : Status → ℕ
-status_number statuses.Done = 0
-status_number statuses.Usage = 1
-status_number statuses.Malformed = 2
-status_number statuses.Outside = 3
-status_number statuses.Limit = 4
-status_number statuses.ReadFault = 5
-status_number statuses.WriteFault = 6
-status_number statuses.NotImage = 7
-status_number statuses.Failed = 8
-status_number statuses.Bound = 9
-status_number statuses.NoMemory = 10
-status_number statuses.Stray = 11
-status_number statuses.InputEnded = 12
-status_number statuses.Broken = 13
+-- The shelf gave bytes under FILE that are a file of these lines.
+pub record GivesLines (before : SeenShelf) (file : List ℕ) (lines : List Line) : Type 0 where
+  pub bytes : List ℕ
+  pub given : Tells (before.content file) (Some bytes)
+  pub short : length bytes ≤ FILE_BYTES
+  pub read : Lines bytes lines
 
--- the status of a refusal
-abbrev pub status_of : Refusal → Status
-status_of (refusals.Malformed at) = statuses.Malformed
-status_of (refusals.Outside line) = statuses.Outside
-status_of (refusals.Limit which count) = statuses.Limit
-status_of refusals.NoMemory = statuses.NoMemory
+-- the listing of every line, in order
+abbrev pub listings : List Line → List ℕ
+listings lines = flat_map listing lines
 
--- the status of what a shelf's `take` refused
-abbrev pub take_status : TakeError → Status
-take_status take_errors.Missing = statuses.ReadFault
-take_status take_errors.Failed = statuses.ReadFault
-take_status take_errors.TooLong = statuses.Limit
-take_status take_errors.NoMemory = statuses.NoMemory
+-- The file is refused by `list` for this reason, which is one of the file's bytes or of its records.
+abbrev pub Unlistable : List ℕ → Refusal → Type 0
+Unlistable bytes (refusals.Malformed at) = refused.Refused bytes (refusals.Malformed at)
+Unlistable bytes (refusals.Outside line) = ⊥
+Unlistable bytes (refusals.Limit which count) = refused.Refused bytes (refusals.Limit which count)
+Unlistable bytes refusals.NoMemory = ⊥
 
--- the status of what a shelf's `put` refused
-abbrev pub put_status : PutError → Status
-put_status put_errors.Failed = statuses.WriteFault
-put_status put_errors.NoMemory = statuses.NoMemory
+-- The shelf gave bytes that are refused for this reason, by some rule. Want of memory is free.
+abbrev pub GivesRefused : (List ℕ → Refusal → Type 0) → Option (Option (List ℕ)) → Refusal → Type 0
+GivesRefused rule content refusals.NoMemory = Unit {0}
+GivesRefused rule content reason = (bytes : List ℕ) × Tells content (Some bytes) × rule bytes reason
 
--- the status of a command's end
-abbrev pub ended : Result Unit Status → Status
-ended (Ok _) = statuses.Done
-ended (Err status) = status
+-- nothing is held under the name, or the shelf failed to give it
+abbrev pub CannotRead : SeenShelf → SeenShelf → List ℕ → Type 0
+CannotRead before after name = (before.content name ≡ Some None) ⊎ Rose before.take_faults after.take_faults
 
--- What the status of `compile` says of the shelf. Want of memory is free.
-abbrev pub ExplainsCompile : {S : Type 0} → (S → List ℕ → Option (Option (List ℕ))) → (S → ℕ) → (S → ℕ) → S → S → List ℕ → List ℕ → Status → Type 0
-ExplainsCompile content take_faults put_faults old new file image statuses.Done = WritesImage content old new file image
-ExplainsCompile content take_faults put_faults old new file image statuses.Usage = ⊥
-ExplainsCompile content take_faults put_faults old new file image statuses.Malformed =
-    (bytes : List ℕ) × (at : ℕ) × Tells (content old file) (Some bytes) × Refused bytes (refusals.Malformed at)
-ExplainsCompile content take_faults put_faults old new file image statuses.Outside =
-    (bytes : List ℕ) × (line : ℕ) × Tells (content old file) (Some bytes) × Refused bytes (refusals.Outside line)
-ExplainsCompile content take_faults put_faults old new file image statuses.Limit = TellsMore (content old file) FILE_BYTES
-ExplainsCompile content take_faults put_faults old new file image statuses.ReadFault =
-    (content old file ≡ Some None) ⊎ Rose (take_faults old) (take_faults new)
-ExplainsCompile content take_faults put_faults old new file image statuses.WriteFault =
-    (bytes : List ℕ) × (program : List ProgramLine) × Tells (content old file) (Some bytes) × Accepted bytes program × Rose (put_faults old) (put_faults new)
-ExplainsCompile content take_faults put_faults old new file image statuses.NotImage = ⊥
-ExplainsCompile content take_faults put_faults old new file image statuses.Failed = ⊥
-ExplainsCompile content take_faults put_faults old new file image statuses.Bound = ⊥
-ExplainsCompile content take_faults put_faults old new file image statuses.NoMemory = Unit {0}
-ExplainsCompile content take_faults put_faults old new file image statuses.Stray = ⊥
-ExplainsCompile content take_faults put_faults old new file image statuses.InputEnded = ⊥
-ExplainsCompile content take_faults put_faults old new file image statuses.Broken = ⊥
+-- why the bytes of a program under a name could not be taken
+abbrev pub NotTaken : SeenShelf → SeenShelf → List ℕ → Ending → Type 0
+NotTaken before after file Done = ⊥
+NotTaken before after file Usage = ⊥
+NotTaken before after file (Refused refusals.NoMemory) = Unit {0}
+NotTaken before after file (Refused reason) =
+    TellsMore (before.content file) FILE_BYTES × (reason ≡ refusals.Limit limits.File (FILE_BYTES + 1))
+NotTaken before after file (ReadFault name) = (name ≡ file) × CannotRead before after file
+NotTaken before after file WriteFault = ⊥
 
--- what the status says, by the command: words that are no command are Usage
-abbrev pub Explains : {S : Type 0} → (S → List ℕ → Option (Option (List ℕ))) → (S → ℕ) → (S → ℕ) → S → S → Option Command → Status → Type 0
-Explains content take_faults put_faults old new None status = status ≡ statuses.Usage
-Explains content take_faults put_faults old new (Some (Compile file image)) status = ExplainsCompile content take_faults put_faults old new file image status
+-- why `compile` ends so
+abbrev pub ExplainsCompile : SeenShelf → SeenShelf → List ℕ → List ℕ → Ending → Type 0
+ExplainsCompile before after file image Done = WritesImage before after file image
+ExplainsCompile before after file image Usage = ⊥
+ExplainsCompile before after file image (Refused reason) = GivesRefused refused.Refused (before.content file) reason
+ExplainsCompile before after file image (ReadFault name) = (name ≡ file) × CannotRead before after file
+ExplainsCompile before after file image WriteFault =
+    (bytes : List ℕ) × (program : List ProgramLine) × Tells (before.content file) (Some bytes) × Accepted bytes program × Rose before.put_faults after.put_faults
 
--- a compile comes to write the image just with these statuses
+-- Why `list` ends so, and what the output got: every line, or nothing, or a first part where the output failed.
+abbrev pub ExplainsList : SeenShelf → SeenShelf → SeenSink → SeenSink → List ℕ → Ending → Type 0
+ExplainsList before after out_before out_after file Done =
+    (lines : List Line) × GivesLines before file lines × (out_after.written ≡ with_bytes out_before.written (listings lines))
+ExplainsList before after out_before out_after file Usage = ⊥
+ExplainsList before after out_before out_after file (Refused reason) =
+    GivesRefused Unlistable (before.content file) reason × Silent out_before out_after
+ExplainsList before after out_before out_after file (ReadFault name) =
+    (name ≡ file) × CannotRead before after file × Silent out_before out_after
+ExplainsList before after out_before out_after file WriteFault =
+    (lines : List Line) × GivesLines before file lines × WritesPart out_before.written (listings lines) out_after.written × Rose out_before.faults out_after.faults
+
+-- why the words end so; nothing but a listing is written
+abbrev pub Explains : SeenShelf → SeenShelf → SeenSink → SeenSink → Option Command → Ending → Type 0
+Explains before after out_before out_after None ending = (ending ≡ Usage) × Silent out_before out_after
+Explains before after out_before out_after (Some (Listing file)) ending = ExplainsList before after out_before out_after file ending
+Explains before after out_before out_after (Some (Compile file image)) ending =
+    ExplainsCompile before after file image ending × Silent out_before out_after
+
+-- The program ended in some way, for its reason, with the status of that way, and with its line on the error output.
+pub record Ends (before after : SeenShelf) (out_before out_after err_before err_after : SeenSink) (command : Option Command) (status : Status) : Type 0 where
+  pub ending : Ending
+  pub status_is : status ≡ status_of ending
+  pub explained : Explains before after out_before out_after command ending
+  pub line : Writes err_before err_after (line_of ending)
+
+-- a command comes to write just with these statuses
 abbrev pub MayWrite : Status → Type 0
 MayWrite status = (status ≡ statuses.Done) ⊎ (status ≡ statuses.WriteFault)
+
+-- a name that the command may change: IMAGE in `compile`
+abbrev pub MayChange : Option Command → List ℕ → Type 0
+MayChange command name = (file : List ℕ) × (command ≡ Some (Compile file name))

@@ -1,4 +1,4 @@
-ghost use Rattle.std.specs.Prelude.{◌≡◌, map, string_bytes};
+ghost use Rattle.std.specs.Prelude.{◌≡◌, [], ◌∷◌, map, string_bytes};
 ghost use Rattle.std.specs.Option.{option_map};
 ghost use Rattle.basv_top.specs.Command.{is_name, command_of};
 ghost use Rattle.basv_top.specs.Meant.{meant};
@@ -6,6 +6,8 @@ ghost use Rattle.basv_top.specs.Meant.{meant};
 /// What the words of the command line ask for.
 #[derive(Clone, Copy)]
 pub enum Command<'a> {
+    /// List a program's file.
+    List { file: &'a str },
     /// Compile a program's file to an image.
     Compile { file: &'a str, image: &'a str },
 }
@@ -16,18 +18,31 @@ fn is_name(word: &str) -> bool
     word == "-" || !word.starts_with('-')
 }
 
+fn read_list<'a>(name: &str, file: &'a str) -> Option<Command<'a>>
+    ensures { option_map meant result ≡ command_of (name.now ∷ file.now ∷ []) }
+{
+    if name == "list" && is_name(file) {
+        return Some(Command::List { file });
+    }
+    None
+}
+
+fn read_compile<'a>(name: &str, file: &'a str, image: &'a str) -> Option<Command<'a>>
+    ensures { option_map meant result ≡ command_of (name.now ∷ file.now ∷ image.now ∷ []) }
+{
+    if name == "compile" && is_name(file) && is_name(image) {
+        return Some(Command::Compile { file, image });
+    }
+    None
+}
+
 /// The command that the words are, if they are one.
 pub fn read_command(words: &[String]) -> Option<Command<'_>>
     ensures { option_map meant result ≡ command_of (map string_bytes words.now) }
 {
-    let [name, file, image] = words else {
-        return None;
-    };
-    if name.as_str() == "compile" && is_name(file.as_str()) && is_name(image.as_str()) {
-        return Some(Command::Compile {
-            file: file.as_str(),
-            image: image.as_str(),
-        });
+    match words {
+        [name, file] => read_list(name.as_str(), file.as_str()),
+        [name, file, image] => read_compile(name.as_str(), file.as_str(), image.as_str()),
+        _ => None,
     }
-    None
 }

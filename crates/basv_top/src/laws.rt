@@ -4,10 +4,11 @@ ghost use Rattle.basv_top.specs.declared.refusal.Refusal.{Refusal as Reason};
 ghost use Rattle.basv_top.specs.Grammar.{Accepted};
 ghost use Rattle.basv_top.specs.Refused.{Refused};
 ghost use Rattle.basv_top.specs.Command.{command_of};
-ghost use Rattle.basv_top.specs.InMemory.{sure_content, no_faults};
-ghost use Rattle.basv_top.specs.Top.{Explains};
+ghost use Rattle.basv_top.specs.InMemory.{seen_in_memory, seen_nothing};
+ghost use Rattle.basv_top.specs.Top.{Ends};
 
-use crate::top::{Status, basv};
+use crate::status::Status;
+use crate::top::basv;
 use bv_io::{NullSink, SureShelf};
 use std::alloc::Global;
 
@@ -21,7 +22,7 @@ pub fn one_verdict(bytes: &[u8])
 
 /// The program over a shelf in memory that never fails. Its status has its cause, and is neither of the two faults.
 pub fn basv_in_memory(alloc: Global, words: &[String], shelf: &mut SureShelf) -> Status
-    ensures causes { Explains sure_content no_faults no_faults shelf.old shelf.new
+    ensures ends { Ends (seen_in_memory shelf.old) (seen_in_memory shelf.new) seen_nothing seen_nothing seen_nothing seen_nothing
         (command_of (map string_bytes words.now)) result }
     ensures no_read_fault { result ≢ Status.ReadFault }
     ensures no_write_fault { result ≢ Status.WriteFault }

@@ -4,10 +4,14 @@
 mod code;
 mod command;
 mod compiler;
+mod ending;
 mod item;
 mod laws;
+mod listing;
 mod parse;
 mod refusal;
+mod report;
+mod status;
 #[cfg(test)]
 mod tests;
 mod top;
@@ -16,4 +20,5 @@ pub use compiler::compile;
 pub use item::{Item, ProgramLine};
 pub use laws::{basv_in_memory, one_verdict};
 pub use refusal::{FILE_BYTES, Refusal, Which};
-pub use top::{Status, basv};
+pub use status::Status;
+pub use top::basv;

@@ -6,10 +6,11 @@ ghost use Rattle.std.specs.Prelude.{◌<◌, ◌^◌, length};
 use crate::compiler::compile;
 use crate::laws::basv_in_memory;
 use crate::refusal::{FILE_BYTES, Refusal, Which};
-use crate::top::{Status, basv};
+use crate::status::Status;
+use crate::top::basv;
 use arm2_machine::{Board, ImageError, read_image, write_image};
 use bv_io::{
-    MemShelf, MemSink, NullSink, Report, RunEnd, Shelf, Sink, SinkFault, SureShelf, TakeError, Trap,
+    MemShelf, MemSink, Report, RunEnd, Shelf, Sink, SinkFault, SureShelf, TakeError, Trap,
 };
 use sqlite_items::Items;
 use std::alloc::{AllocError, Global};
@@ -33,12 +34,19 @@ fn to_words(alloc: Global, words: &[&str]) -> Result<Vec<String>, AllocError> {
     Ok(all)
 }
 
-/// The status of `basv` on these words, with sinks that tell nothing.
-fn status_of(alloc: Global, words: &[&str], shelf: &mut MemShelf) -> Result<Status, AllocError> {
+/// The status of `basv` on these words, and what it writes to the output and to the error output.
+fn run_words(
+    alloc: Global,
+    words: &[&str],
+    shelf: &mut MemShelf,
+) -> Result<(Status, Vec<u8>, Vec<u8>), Fail> {
     let words = to_words(alloc, words)?;
-    let mut out = NullSink::new();
-    let mut err = NullSink::new();
-    Ok(basv(alloc, words.as_slice(), shelf, &mut out, &mut err))
+    let mut out = MemSink::new(alloc, 200)?;
+    let mut err = MemSink::new(alloc, 200)?;
+    let status = basv(alloc, words.as_slice(), shelf, &mut out, &mut err);
+    let output = Vec::from_slice(alloc, out.bytes())?;
+    let line = Vec::from_slice(alloc, err.bytes())?;
+    Ok((status, output, line))
 }
 
 fn shelf_with(alloc: Global, file: &[u8]) -> Result<MemShelf, Fail> {
@@ -50,7 +58,7 @@ fn shelf_with(alloc: Global, file: &[u8]) -> Result<MemShelf, Fail> {
 /// The status of compiling a file, and what then is held as its image.
 fn compiled(alloc: Global, file: &[u8]) -> Result<(Status, Result<Vec<u8>, TakeError>), Fail> {
     let mut shelf = shelf_with(alloc, file)?;
-    let status = status_of(alloc, &["compile", "f", "i"], &mut shelf)?;
+    let (status, _, _) = run_words(alloc, &["compile", "f", "i"], &mut shelf)?;
     Ok((status, shelf.take(alloc, "i", 1000)))
 }
 
@@ -144,34 +152,151 @@ fn files_are_refused(rt: HostRuntime) -> Result<(), Fail> {
     Ok(())
 }
 
+/// Files, and what they list as.
+const LISTINGS: [(&[u8], &[u8]); 14] = [
+    (VDU_65, b"   10VDU 65\n"),
+    (b"\x0d\xff", b""),
+    (
+        b"\x0d\x00\x14\x08\xc8\xa3\xe7A\x0d\xff",
+        b"   20<C8 A3>IFA\n",
+    ),
+    (
+        b"\x0d\x00\x0a\x0a\xe5 \x8d\x54\x4a\x40\x0d\xff",
+        b"   10GOTO 10\n",
+    ),
+    (b"\x0d\x00\x0a\x05\xc8\x0d\xff", b"   10<C8>\n"),
+    (b"\x0d\x00\x0a\x07\x8dAB\x0d\xff", b"   10<8D>AB\n"),
+    (b"\x0d\x00\x0a\x07\xf1\"\xf1\x0d\xff", b"   10PRINT\"\xf1\n"),
+    (
+        b"\x0d\x00\x0a\x07\xc8\"\xf1\x0d\xff",
+        b"   10<C8 22>PRINT\n",
+    ),
+    (
+        b"\x0d\x00\x0a\x08\"\xf1\"\xf1\x0d\xff",
+        b"   10\"\xf1\"PRINT\n",
+    ),
+    (
+        b"\x0d\x00\x0a\x07\xf4\xf1\x8d\x0d\xff",
+        b"   10REM\xf1\x8d\n",
+    ),
+    (
+        b"\x0d\x00\x0a\x08\xf1:\xdc\xf1\x0d\xff",
+        b"   10PRINT:DATA\xf1\n",
+    ),
+    (b"\x0d\x00\x0a\x05\x7f\x0d\xff", b"   10OTHERWISE\n"),
+    (
+        b"\x0d\x00\x0a\x08\x8b\xcc\x8f\xcf\x0d\xff",
+        b"   10ELSEELSEPTRPTR\n",
+    ),
+    (
+        b"\x0d\xfe\xff\x04\x0d\x00\x01\x05A\x0d\xff",
+        b"65279\n    1A\n",
+    ),
+];
+
+fn lists(alloc: Global, file: &[u8], listing: &[u8]) -> Result<bool, Fail> {
+    let mut shelf = shelf_with(alloc, file)?;
+    let (status, output, line) = run_words(alloc, &["list", "f"], &mut shelf)?;
+    Ok(status == Status::Done && output.as_slice() == listing && line.is_empty())
+}
+
 #[test]
-fn long_files_are_refused(rt: HostRuntime) -> Result<(), Fail> {
-    let alloc = rt.alloc();
-    let long = vec![in alloc; 0; FILE_BYTES as usize + 1]?;
-    let which = Which::File;
-    let limit = Refusal::Limit {
-        which,
-        count: 65537,
-    };
-    assert!(rt; is_refused(alloc, long.as_slice(), limit, Status::Limit)?);
+fn files_are_listed(rt: HostRuntime) -> Result<(), Fail> {
+    for (file, listing) in LISTINGS {
+        assert!(rt; lists(rt.alloc(), file, listing)?);
+    }
     Ok(())
 }
 
-/// The status of compiling a name, where a call of the shelf fails.
-fn status_failing(alloc: Global, name: &str, call: u64) -> Result<Status, Fail> {
+/// Whether a command ends with this status and this line on the error output, and writes nothing to the output.
+fn says(
+    alloc: Global,
+    words: &[&str],
+    file: &[u8],
+    status: Status,
+    line: &[u8],
+) -> Result<bool, Fail> {
+    let mut shelf = shelf_with(alloc, file)?;
+    let (got, output, written) = run_words(alloc, words, &mut shelf)?;
+    Ok(got == status && output.is_empty() && written.as_slice() == line)
+}
+
+const USAGE: &[u8] =
+    b"usage: basv list FILE / compile FILE IMAGE / interp FILE / run IMAGE / selftest SEED LINES\n";
+
+#[test]
+fn refusals_say_why(rt: HostRuntime) -> Result<(), Fail> {
+    let alloc = rt.alloc();
+    let cut_off = b"\x0d\x00\x0a\x05A\x0d\x00\x14\x07\xf1";
+    let malformed = b"malformed file at byte 5\n";
+    let long = vec![in alloc; 0; FILE_BYTES as usize + 1]?;
+    let long = long.as_slice();
+    let limit = b"limit file at 65537\n";
+    let compile = &["compile", "f", "i"];
+    assert!(rt; says(alloc, compile, VDU_65, Status::Done, b"")?);
+    assert!(rt; says(alloc, compile, cut_off, Status::Malformed, malformed)?);
+    assert!(rt; says(alloc, &["list", "f"], cut_off, Status::Malformed, malformed)?);
+    assert!(rt;
+        says(
+            alloc,
+            compile,
+            b"\x0d\x00\x0a\x07A=1\x0d\xff",
+            Status::Outside,
+            b"outside the profile at line 10\n"
+        )?
+    );
+    assert!(rt; says(alloc, compile, long, Status::Limit, limit)?);
+    assert!(rt; says(alloc, &["list", "f"], long, Status::Limit, limit)?);
+    assert!(rt;
+        says(
+            alloc,
+            &["list", "x"],
+            VDU_65,
+            Status::ReadFault,
+            b"cannot read x\n"
+        )?
+    );
+    assert!(rt; says(alloc, &["list"], VDU_65, Status::Usage, USAGE)?);
+    Ok(())
+}
+
+/// Whether compiling ends with a status and a line where a call of the shelf fails.
+fn fails(alloc: Global, call: u64, status: Status, line: &[u8]) -> Result<bool, Fail> {
     let mut shelf = shelf_with(alloc, VDU_65)?;
     shelf.fail_at(call)?;
-    Ok(status_of(alloc, &["compile", name, "i"], &mut shelf)?)
+    let (got, _, written) = run_words(alloc, &["compile", "f", "i"], &mut shelf)?;
+    Ok(got == status && written.as_slice() == line)
 }
 
 #[test]
 fn shelves_fail(rt: HostRuntime) -> Result<(), Fail> {
     let alloc = rt.alloc();
-    assert_eq!(rt; status_failing(alloc, "f", 3)?, Status::Done);
-    assert_eq!(rt; status_failing(alloc, "f", 2)?, Status::WriteFault);
-    assert_eq!(rt; status_failing(alloc, "f", 1)?, Status::ReadFault);
-    assert_eq!(rt; status_failing(alloc, "g", 3)?, Status::ReadFault);
-    assert_eq!(rt; status_failing(alloc, "-g", 3)?, Status::Usage);
+    assert!(rt; fails(alloc, 3, Status::Done, b"")?);
+    assert!(rt; fails(alloc, 2, Status::WriteFault, b"cannot write\n")?);
+    assert!(rt; fails(alloc, 1, Status::ReadFault, b"cannot read f\n")?);
+    Ok(())
+}
+
+/// The status of listing into room for so many bytes, with room for so many on the error output, and what these got.
+fn list_into(alloc: Global, room: u32, err_room: u32) -> Result<(Status, Vec<u8>, Vec<u8>), Fail> {
+    let mut shelf = shelf_with(alloc, VDU_65)?;
+    let words = to_words(alloc, &["list", "f"])?;
+    let mut out = MemSink::new(alloc, room)?;
+    let mut err = MemSink::new(alloc, err_room)?;
+    let status = basv(alloc, words.as_slice(), &mut shelf, &mut out, &mut err);
+    let output = Vec::from_slice(alloc, out.bytes())?;
+    let line = Vec::from_slice(alloc, err.bytes())?;
+    Ok((status, output, line))
+}
+
+#[test]
+fn outputs_fail(rt: HostRuntime) -> Result<(), Fail> {
+    let (status, output, line) = list_into(rt.alloc(), 11, 100)?;
+    assert_eq!(rt; status, Status::WriteFault);
+    assert!(rt; output.is_empty() && line.as_slice() == b"cannot write\n".as_slice());
+    let (status, _, line) = list_into(rt.alloc(), 11, 12)?;
+    assert_eq!(rt; status, Status::WriteFault);
+    assert_eq!(rt; line.as_slice(), b"cannot write".as_slice());
     Ok(())
 }
 

@@ -1,147 +1,111 @@
-ghost use Rattle.std.specs.Prelude.{◌≡◌, ◌≢◌, ◌⊎◌, ℕ, List, Some, map, string_bytes};
-ghost use Rattle.bv_io.specs.Shelf.{Rose};
+ghost use Rattle.std.specs.Prelude.{◌≡◌, ◌≢◌, ◌⊎◌, ℕ, ◌≤◌, List, Some, map, string_bytes, length, IfOk, IfErr};
+ghost use Rattle.bv_io.specs.Shelf.{Rose, Tells};
+ghost use Rattle.bv_io.specs.Sink.{with_bytes};
+ghost use Rattle.token_file.specs.declared.line.Line.{Line as FileLine};
+ghost use Rattle.token_file.specs.Lines.{Lines};
 ghost use Rattle.basv_top.specs.declared.item.ProgramLine.{ProgramLine as Line};
 ghost use Rattle.basv_top.specs.declared.refusal.Refusal.{Refusal as Reason};
+ghost use Rattle.basv_top.specs.Command.{Listing as IsList, Compile as IsCompile, command_of};
+ghost use Rattle.basv_top.specs.Ending.{told, ended, status_of, refusal_status};
 ghost use Rattle.basv_top.specs.Grammar.{Accepted};
 ghost use Rattle.basv_top.specs.Refused.{Refused};
-ghost use Rattle.basv_top.specs.Command.{Compile as IsCompile, command_of};
-ghost use Rattle.basv_top.specs.Meant.{meant};
-ghost use Rattle.basv_top.specs.Top.{WritesImage, Explains, ExplainsCompile, MayWrite, status_of, ended};
+ghost use Rattle.basv_top.specs.Seen.{seen_shelf, seen_sink};
+ghost use Rattle.basv_top.specs.Top.{WritesImage, GivesLines, listings, Unlistable, NotTaken, Explains, ExplainsCompile, ExplainsList, Ends, MayWrite, MayChange};
 
 use crate::command::{Command, read_command};
 use crate::compiler::compile;
-use crate::refusal::{FILE_BYTES, Refusal};
-use bv_io::{PutError, Shelf, Sink, TakeError};
+use crate::ending::Ending;
+use crate::listing::list_lines;
+use crate::refusal::FILE_BYTES;
+use crate::report::report;
+use crate::status::Status;
+use bv_io::{Shelf, Sink};
 use std::alloc::Global;
+use token_file::read_file;
 
-/// The status that the program ends with, by its number.
-#[derive(Clone, Copy, Debug, PartialEq, Eq)]
-pub enum Status {
-    /// The command was carried out.
-    Done = 0,
-    /// The words are no command.
-    Usage = 1,
-    /// The file is no tokenised program.
-    Malformed = 2,
-    /// A line is outside the language.
-    Outside = 3,
-    /// A limit is passed.
-    Limit = 4,
-    /// A file could not be read.
-    ReadFault = 5,
-    /// A file or an output could not be written.
-    WriteFault = 6,
-    /// The file is no image.
-    NotImage = 7,
-    /// The program's run ended with an error.
-    Failed = 8,
-    /// The run's bound was reached.
-    Bound = 9,
-    /// There was no memory.
-    NoMemory = 10,
-    /// An access or a called routine left what it may use.
-    Stray = 11,
-    /// The program asked for input behind the end of its input.
-    InputEnded = 12,
-    /// The board could not go on.
-    Broken = 13,
-}
-
-impl Status {
-    ghost use Rattle.basv_top.specs.Top.{status_number};
-
-    /// The number of the status, as a process ends with it.
-    pub fn code(self) -> u8
-        ensures { result ≡ status_number self }
-    {
-        self as u8
+/// The bytes of the program under a name.
+fn take_program<'a, S: Shelf>(
+    alloc: Global,
+    file: &'a str,
+    shelf: &mut S,
+) -> Result<Vec<u8>, Ending<'a>>
+    ensures found { IfOk result (λ bytes. Tells (S.content shelf.old file.now) (Some bytes.items)) }
+    ensures fits { IfOk result (λ bytes. length bytes.items ≤ FILE_BYTES) }
+    ensures not_taken { IfErr result (λ ending. NotTaken (seen_shelf S.content S.take_faults S.put_faults shelf.old)
+        (seen_shelf S.content S.take_faults S.put_faults shelf.new) file.now (told ending)) }
+    ensures same { (n : List ℕ) → S.content shelf.new n ≡ S.content shelf.old n }
+    ensures put_faults { S.put_faults shelf.new ≡ S.put_faults shelf.old }
+{
+    match shelf.take(alloc, file, FILE_BYTES) {
+        Ok(bytes) => Ok(bytes),
+        Err(error) => Err(Ending::not_taken(error, file)),
     }
 }
 
-impl From<TakeError> for Status {
-    ghost use Rattle.std.specs.Prelude.{◌≡◌};
-    ghost use Rattle.basv_top.specs.Meant.{meant};
-    ghost use Rattle.basv_top.specs.Top.{take_status};
-
-    ghost from_gives = { λ error status. status ≡ take_status error };
-
-    fn from(error: TakeError) -> Status {
-        match error {
-            TakeError::Missing | TakeError::Failed => Status::ReadFault,
-            TakeError::TooLong => Status::Limit,
-            TakeError::NoMemory => Status::NoMemory,
-        }
-    }
-}
-
-impl From<PutError> for Status {
-    ghost use Rattle.std.specs.Prelude.{◌≡◌};
-    ghost use Rattle.basv_top.specs.Meant.{meant};
-    ghost use Rattle.basv_top.specs.Top.{put_status};
-
-    ghost from_gives = { λ error status. status ≡ put_status error };
-
-    fn from(error: PutError) -> Status {
-        match error {
-            PutError::Failed => Status::WriteFault,
-            PutError::NoMemory => Status::NoMemory,
-        }
-    }
-}
-
-impl From<Refusal> for Status {
-    ghost use Rattle.std.specs.Prelude.{◌≡◌};
-    ghost use Rattle.basv_top.specs.Meant.{meant};
-    ghost use Rattle.basv_top.specs.Top.{status_of};
-
-    ghost from_gives = { λ refusal status. status ≡ status_of refusal };
-
-    fn from(refusal: Refusal) -> Status {
-        match refusal {
-            Refusal::Malformed { .. } => Status::Malformed,
-            Refusal::Outside { .. } => Status::Outside,
-            Refusal::Limit { .. } => Status::Limit,
-            Refusal::NoMemory => Status::NoMemory,
-        }
-    }
+/// Lists the program under a name. The whole text is made before its first byte is written.
+fn list_file<'a, S: Shelf, O: Sink>(
+    alloc: Global,
+    file: &'a str,
+    shelf: &mut S,
+    out: &mut O,
+) -> Result<(), Ending<'a>>
+    ensures explained { ExplainsList (seen_shelf S.content S.take_faults S.put_faults shelf.old)
+        (seen_shelf S.content S.take_faults S.put_faults shelf.new)
+        (seen_sink O.written O.faults out.old) (seen_sink O.written O.faults out.new) file.now (ended result) }
+    ensures same { (n : List ℕ) → S.content shelf.new n ≡ S.content shelf.old n }
+{
+    let bytes = take_program(alloc, file, shelf)?;
+    let lines = read_file(alloc, bytes.as_slice())?;
+    let text = list_lines(alloc, lines.as_slice())?;
+    out.write(text.as_slice())?;
+    Ok(())
 }
 
 /// Compiles the program under one name to an image under another.
-fn compile_file<S: Shelf>(
+fn compile_file<'a, S: Shelf>(
     alloc: Global,
-    file: &str,
+    file: &'a str,
     image: &str,
     shelf: &mut S,
-) -> Result<(), Status>
-    ensures explained { ExplainsCompile S.content S.take_faults S.put_faults shelf.old shelf.new
-        file.now image.now (ended result) }
+) -> Result<(), Ending<'a>>
+    ensures explained { ExplainsCompile (seen_shelf S.content S.take_faults S.put_faults shelf.old)
+        (seen_shelf S.content S.take_faults S.put_faults shelf.new) file.now image.now (ended result) }
     ensures others { (n : List ℕ) → n ≢ image.now → S.content shelf.new n ≡ S.content shelf.old n }
-    ensures same { MayWrite (ended result) ⊎ ((n : List ℕ) → S.content shelf.new n ≡ S.content shelf.old n) }
+    ensures same { MayWrite (status_of (ended result)) ⊎ ((n : List ℕ) → S.content shelf.new n ≡ S.content shelf.old n) }
 {
-    let bytes = shelf.take(alloc, file, FILE_BYTES)?;
+    let bytes = take_program(alloc, file, shelf)?;
     let contents = compile(alloc, bytes.as_slice())?;
     shelf.put(image, contents.as_slice())?;
     Ok(())
 }
 
-fn carry_out<S: Shelf>(alloc: Global, command: Command<'_>, shelf: &mut S) -> Status
-    ensures causes { Explains S.content S.take_faults S.put_faults shelf.old shelf.new
-        (Some (meant command.entry)) result }
-    ensures others { (file image : List ℕ) → meant command.entry ≡ IsCompile file image
-        → (n : List ℕ) → n ≢ image → S.content shelf.new n ≡ S.content shelf.old n }
-    ensures same { MayWrite result ⊎ ((n : List ℕ) → S.content shelf.new n ≡ S.content shelf.old n) }
+/// Does what the words ask for.
+fn carry_out<'a, S: Shelf, O: Sink>(
+    alloc: Global,
+    words: &'a [String],
+    shelf: &mut S,
+    out: &mut O,
+) -> Ending<'a>
+    ensures explained { Explains (seen_shelf S.content S.take_faults S.put_faults shelf.old)
+        (seen_shelf S.content S.take_faults S.put_faults shelf.new)
+        (seen_sink O.written O.faults out.old) (seen_sink O.written O.faults out.new)
+        (command_of (map string_bytes words.now)) (told result) }
+    ensures others { (n : List ℕ) → (MayChange (command_of (map string_bytes words.now)) n → ⊥)
+        → S.content shelf.new n ≡ S.content shelf.old n }
+    ensures same { MayWrite (status_of (told result)) ⊎ ((n : List ℕ) → S.content shelf.new n ≡ S.content shelf.old n) }
 {
-    match command {
-        Command::Compile { file, image } => match compile_file(alloc, file, image, shelf) {
-            Ok(()) => Status::Done,
-            Err(status) => status,
-        },
+    match read_command(words) {
+        Some(Command::List { file }) => Ending::of(list_file(alloc, file, shelf, out)),
+        Some(Command::Compile { file, image }) => {
+            Ending::of(compile_file(alloc, file, image, shelf))
+        }
+        None => Ending::Usage,
     }
 }
 
-/// The program `basv`, on the words behind its name. `compile FILE IMAGE` is its one command so far: it takes the
-/// tokenised program that the shelf holds under FILE, and puts its image file under IMAGE. It writes nothing to `out`
-/// or `err`.
+/// The program `basv`, on the words behind its name. `list FILE` writes the listing of the tokenised program that the
+/// shelf holds under FILE to `out`. `compile FILE IMAGE` puts that program's image file under IMAGE. Where the command
+/// isn't done, one line on `err` says why.
 pub fn basv<S: Shelf, O: Sink, E: Sink>(
     alloc: Global,
     words: &[String],
@@ -149,17 +113,27 @@ pub fn basv<S: Shelf, O: Sink, E: Sink>(
     out: &mut O,
     err: &mut E,
 ) -> Status
-    // Where it is done, the words name a file and an image, the file is accepted as one program, and the image that is
-    // held agrees with that program on every input.
-    ensures headline { result ≡ Status.Done → (file : List ℕ) × (image : List ℕ)
-        × (command_of (map string_bytes words.now) ≡ Some (IsCompile file image))
-        × WritesImage S.content shelf.old shelf.new file image }
+    // Where a compile is done, the file is accepted as one program, and the image that is held agrees with that program
+    // on every input.
+    ensures headline { (file image : List ℕ) → command_of (map string_bytes words.now) ≡ Some (IsCompile file image)
+        → result ≡ Status.Done
+        → WritesImage (seen_shelf S.content S.take_faults S.put_faults shelf.old)
+        (seen_shelf S.content S.take_faults S.put_faults shelf.new) file image }
 
-    // Each status has its cause.
-    ensures causes { Explains S.content S.take_faults S.put_faults shelf.old shelf.new
+    // Where a list is done, the listing of every line of the file is written.
+    ensures listed { (file : List ℕ) → command_of (map string_bytes words.now) ≡ Some (IsList file)
+        → result ≡ Status.Done
+        → (lines : List FileLine) × GivesLines (seen_shelf S.content S.take_faults S.put_faults shelf.old) file lines
+        × (O.written out.new ≡ with_bytes (O.written out.old) (listings lines)) }
+
+    // Each status has its cause, which is in its line on the error output.
+    ensures ends { Ends (seen_shelf S.content S.take_faults S.put_faults shelf.old)
+        (seen_shelf S.content S.take_faults S.put_faults shelf.new)
+        (seen_sink O.written O.faults out.old) (seen_sink O.written O.faults out.new)
+        (seen_sink E.written E.faults err.old) (seen_sink E.written E.faults err.new)
         (command_of (map string_bytes words.now)) result }
 
-    // An accepted file is done, where neither count of the shelf rose and there was memory.
+    // An accepted file is compiled, where neither count of the shelf rose and there was memory.
     ensures complete { (file image bytes : List ℕ) (program : List Line)
         → command_of (map string_bytes words.now) ≡ Some (IsCompile file image)
         → S.content shelf.old file ≡ Some (Some bytes) → Accepted bytes program
@@ -172,18 +146,34 @@ pub fn basv<S: Shelf, O: Sink, E: Sink>(
         → command_of (map string_bytes words.now) ≡ Some (IsCompile file image)
         → S.content shelf.old file ≡ Some (Some bytes) → Refused bytes reason
         → (Rose (S.take_faults shelf.old) (S.take_faults shelf.new) → ⊥)
-        → (result ≡ status_of reason) ⊎ (result ≡ Status.NoMemory) }
+        → (result ≡ refusal_status reason) ⊎ (result ≡ Status.NoMemory) }
 
-    // No name but the image's changes, and that only where the image came to be written.
-    ensures others { (file image : List ℕ) → command_of (map string_bytes words.now) ≡ Some (IsCompile file image)
-        → (n : List ℕ) → n ≢ image → S.content shelf.new n ≡ S.content shelf.old n }
+    // A file that has lines is listed, where neither the shelf failed to give it nor the output to take it, and there was
+    // memory.
+    ensures list_complete { (file : List ℕ) (bytes : List ℕ) (lines : List FileLine)
+        → command_of (map string_bytes words.now) ≡ Some (IsList file)
+        → S.content shelf.old file ≡ Some (Some bytes) → length bytes ≤ FILE_BYTES → Lines bytes lines
+        → (Rose (S.take_faults shelf.old) (S.take_faults shelf.new) → ⊥)
+        → (Rose (O.faults out.old) (O.faults out.new) → ⊥)
+        → (result ≡ Status.Done) ⊎ (result ≡ Status.NoMemory) }
+
+    // A file that is too long or has no lines is refused for that, where the shelf did not fail and there was memory.
+    ensures list_refused { (file bytes : List ℕ) (reason : Reason)
+        → command_of (map string_bytes words.now) ≡ Some (IsList file)
+        → S.content shelf.old file ≡ Some (Some bytes) → Unlistable bytes reason
+        → (Rose (S.take_faults shelf.old) (S.take_faults shelf.new) → ⊥)
+        → (result ≡ refusal_status reason) ⊎ (result ≡ Status.NoMemory) }
+
+    // No name but a compile's image changes, and that only where the image came to be written.
+    ensures others { (n : List ℕ) → (MayChange (command_of (map string_bytes words.now)) n → ⊥)
+        → S.content shelf.new n ≡ S.content shelf.old n }
     ensures same { MayWrite result ⊎ ((n : List ℕ) → S.content shelf.new n ≡ S.content shelf.old n) }
 
-    ensures out { O.written out.new ≡ O.written out.old }
-    ensures err { E.written err.new ≡ E.written err.old }
+    // Nothing is written to the output but by a list that came to write.
+    ensures silent { ((file : List ℕ) → command_of (map string_bytes words.now) ≡ Some (IsList file) → MayWrite result → ⊥)
+        → O.written out.new ≡ O.written out.old }
 {
-    match read_command(words) {
-        Some(command) => carry_out(alloc, command, shelf),
-        None => Status::Usage,
-    }
+    let ending = carry_out(alloc, words, shelf, out);
+    report(err, ending);
+    ending.status()
 }

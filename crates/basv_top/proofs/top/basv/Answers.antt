@@ -1,25 +1,70 @@
-use Rattle.std.proofs.Common.{ap, sym, ◌∙◌, option_map, unwrap_or}
-use Rattle.basv_top.specs.Meant.{meant}
-use Rattle.basv_top.proofs.Causes.{explained_names, accepted_is_done, refused_is_told}
+use Rattle.std.proofs.Common.{◌≡◌, ◌⊎◌, Option, Some, sym, subst}
+use Rattle.basv_top.specs.declared.status.Status.{Status}
+use Rattle.basv_top.specs.declared.status.Status.TheVariants as statuses
+use Rattle.basv_top.specs.Command.{Command, Listing, Compile}
+use Rattle.basv_top.specs.Ending.{Ending, told, status_of, refusal_status}
+use Rattle.basv_top.specs.Seen.{SeenShelf, SeenSink, seen_shelf, seen_sink}
+use Rattle.basv_top.specs.Top.{Explains, MayWrite}
+use Rattle.basv_top.proofs.Causes.{accepted_is_done, refused_is_told, lines_are_listed, unlistable_is_told, silent_unless_listed}
 use Rattle.basv_top.proofs.top.basv.Goals as goal
 
-pub returns-in-Some-clause-complete : goal.returns-in-Some-clause-complete
-returns-in-Some-clause-complete g c = λ file image bytes program is held accepted calm_take calm_put.
-    let shelf = g.S.Shelf in
-    let command = ap (option_map meant) (sym c.in-Some.is) ∙ c.read_command.ensures ∙ is in
-    accepted_is_done shelf.content shelf.take_faults shelf.put_faults c.args.shelf.now c.carry_out.new.shelf file image bytes program c.carry_out.result
-    (explained_names shelf.content shelf.take_faults shelf.put_faults c.args.shelf.now c.carry_out.new.shelf _ file image c.carry_out.result command c.carry_out.ensures.causes)
-    held accepted calm_take calm_put
+-- an ending with one of two statuses, by its status
+either : (status first second : Status) (ending : Ending) → status ≡ status_of ending → (status_of ending ≡ first) ⊎ (status_of ending ≡ second) → (status ≡ first) ⊎ (status ≡ second)
+either status first second ending is one = subst (λ s. (s ≡ first) ⊎ (s ≡ second)) (sym is) one
 
-pub returns-in-Some-clause-refused : goal.returns-in-Some-clause-refused
-returns-in-Some-clause-refused g c = λ file image bytes reason is held refused calm.
-    let shelf = g.S.Shelf in
-    let command = ap (option_map meant) (sym c.in-Some.is) ∙ c.read_command.ensures ∙ is in
-    refused_is_told shelf.content shelf.take_faults shelf.put_faults c.args.shelf.now c.carry_out.new.shelf file image bytes reason c.carry_out.result
-    (explained_names shelf.content shelf.take_faults shelf.put_faults c.args.shelf.now c.carry_out.new.shelf _ file image c.carry_out.result command c.carry_out.ensures.causes)
-    held refused calm
+-- what is explained of a command that the words are
+of_command : (before after : SeenShelf) (out_before out_after : SeenSink) (ending : Ending) (command : Option Command) (named : Command) → command ≡ Some named → Explains before after out_before out_after command ending → Explains before after out_before out_after (Some named) ending
+of_command before after out_before out_after ending command named is e = subst (λ c. Explains before after out_before out_after c ending) is e
 
-pub returns-in-Some-clause-others : goal.returns-in-Some-clause-others
-returns-in-Some-clause-others g c = λ file image is n apart.
-    let command = ap (option_map meant) (sym c.in-Some.is) ∙ c.read_command.ensures ∙ is in
-    c.carry_out.ensures.others file image (ap (λ o. unwrap_or o (meant c.in-Some.command)) command) n apart
+pub returns-clause-complete : goal.returns-clause-complete
+returns-clause-complete g c = λ file image bytes program is held accepted calm_take calm_put.
+    let before = seen_shelf g.S.Shelf.content g.S.Shelf.take_faults g.S.Shelf.put_faults c.args.shelf.now in
+    let after = seen_shelf g.S.Shelf.content g.S.Shelf.take_faults g.S.Shelf.put_faults c.carry_out-ending.new.shelf in
+    let out_before = seen_sink g.O.Sink.written g.O.Sink.faults c.args.out.now in
+    let out_after = seen_sink g.O.Sink.written g.O.Sink.faults c.carry_out-ending.new.out in
+    let ending = told c.carry_out-ending.result in
+    let why = of_command before after out_before out_after ending _ (Compile file image) is c.carry_out-ending.ensures.explained in
+    either c.status.result statuses.Done statuses.NoMemory ending c.status.ensures
+    (accepted_is_done before after file image bytes program ending why.0 held accepted calm_take calm_put)
+
+pub returns-clause-refused : goal.returns-clause-refused
+returns-clause-refused g c = λ file image bytes reason is held refused calm.
+    let before = seen_shelf g.S.Shelf.content g.S.Shelf.take_faults g.S.Shelf.put_faults c.args.shelf.now in
+    let after = seen_shelf g.S.Shelf.content g.S.Shelf.take_faults g.S.Shelf.put_faults c.carry_out-ending.new.shelf in
+    let out_before = seen_sink g.O.Sink.written g.O.Sink.faults c.args.out.now in
+    let out_after = seen_sink g.O.Sink.written g.O.Sink.faults c.carry_out-ending.new.out in
+    let ending = told c.carry_out-ending.result in
+    let why = of_command before after out_before out_after ending _ (Compile file image) is c.carry_out-ending.ensures.explained in
+    either c.status.result (refusal_status reason) statuses.NoMemory ending c.status.ensures
+    (refused_is_told before after file image bytes reason ending why.0 held refused calm)
+
+pub returns-clause-list_complete : goal.returns-clause-list_complete
+returns-clause-list_complete g c = λ file bytes lines is held short read calm_take calm_out.
+    let before = seen_shelf g.S.Shelf.content g.S.Shelf.take_faults g.S.Shelf.put_faults c.args.shelf.now in
+    let after = seen_shelf g.S.Shelf.content g.S.Shelf.take_faults g.S.Shelf.put_faults c.carry_out-ending.new.shelf in
+    let out_before = seen_sink g.O.Sink.written g.O.Sink.faults c.args.out.now in
+    let out_after = seen_sink g.O.Sink.written g.O.Sink.faults c.carry_out-ending.new.out in
+    let ending = told c.carry_out-ending.result in
+    let why = of_command before after out_before out_after ending _ (Listing file) is c.carry_out-ending.ensures.explained in
+    either c.status.result statuses.Done statuses.NoMemory ending c.status.ensures
+    (lines_are_listed before after out_before out_after file bytes lines ending why held short read calm_take calm_out)
+
+pub returns-clause-list_refused : goal.returns-clause-list_refused
+returns-clause-list_refused g c = λ file bytes reason is held unlistable calm.
+    let before = seen_shelf g.S.Shelf.content g.S.Shelf.take_faults g.S.Shelf.put_faults c.args.shelf.now in
+    let after = seen_shelf g.S.Shelf.content g.S.Shelf.take_faults g.S.Shelf.put_faults c.carry_out-ending.new.shelf in
+    let out_before = seen_sink g.O.Sink.written g.O.Sink.faults c.args.out.now in
+    let out_after = seen_sink g.O.Sink.written g.O.Sink.faults c.carry_out-ending.new.out in
+    let ending = told c.carry_out-ending.result in
+    let why = of_command before after out_before out_after ending _ (Listing file) is c.carry_out-ending.ensures.explained in
+    either c.status.result (refusal_status reason) statuses.NoMemory ending c.status.ensures
+    (unlistable_is_told before after out_before out_after file bytes reason ending why held unlistable calm)
+
+pub returns-clause-silent : goal.returns-clause-silent
+returns-clause-silent g c = λ none.
+    let before = seen_shelf g.S.Shelf.content g.S.Shelf.take_faults g.S.Shelf.put_faults c.args.shelf.now in
+    let after = seen_shelf g.S.Shelf.content g.S.Shelf.take_faults g.S.Shelf.put_faults c.carry_out-ending.new.shelf in
+    let out_before = seen_sink g.O.Sink.written g.O.Sink.faults c.args.out.now in
+    let out_after = seen_sink g.O.Sink.written g.O.Sink.faults c.carry_out-ending.new.out in
+    silent_unless_listed before after out_before out_after _ (told c.carry_out-ending.result) c.carry_out-ending.ensures.explained
+    (λ file is may. none file is (subst MayWrite (sym c.status.ensures) may))

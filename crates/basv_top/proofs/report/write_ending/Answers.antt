@@ -1,0 +1,15 @@
+use Rattle.std.proofs.Common.{◌≡◌, [], ◌∷◌, ◌++◌, OnOk, OnErr, sym, ap, subst, ◌∙◌}
+use Rattle.bv_io.specs.Sink.{with_bytes, WritesPart}
+use Rattle.basv_top.proofs.Endings.{line_of_told}
+use Rattle.basv_top.proofs.report.write_ending.Goals as goal
+
+pub returns : goal.returns
+returns g c =
+    let line = ap (λ text. text ++ 10 ∷ []) c.ending_message.ensures ∙ sym (line_of_told c.args.ending c.in_default.not-Done) in
+    let old = g.E.Sink.written c.args.err.now in
+    let new = g.E.Sink.written c.write_line.new.err in
+    record {
+      ok = subst (λ l. OnOk c.write_line.result (new ≡ with_bytes old l)) line c.write_line.ensures.ok;
+      part = subst (λ l. OnErr c.write_line.result (WritesPart old l new)) line c.write_line.ensures.part;
+      failed = c.write_line.ensures.failed;
+    }

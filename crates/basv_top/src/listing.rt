@@ -1,0 +1,19 @@
+ghost use Rattle.std.specs.Prelude.{◌≡◌, IfOk};
+ghost use Rattle.basv_top.specs.Top.{listings};
+
+use bv_io::NoMemory;
+use lister::list_line;
+use std::alloc::Global;
+use token_file::Line;
+
+/// The listing of every line, in order.
+pub fn list_lines(alloc: Global, lines: &[Line]) -> Result<Vec<u8>, NoMemory>
+    ensures { IfOk result (λ text. text.items ≡ listings lines.now) }
+{
+    let mut text = Vec::new(alloc);
+    for line in lines {
+        let listing = list_line(alloc, line)?;
+        text.extend_from_slice(listing.as_slice())?;
+    }
+    Ok(text)
+}
