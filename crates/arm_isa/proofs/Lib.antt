@@ -1,0 +1,11 @@
+pub mod FieldLemmas
+pub mod Rotations
+pub mod ClassBits
+pub mod Laws
+pub mod RoundTrip
+pub mod ValidLaws
+pub mod ValidTest
+mod Sums
+pub mod ImmediateLaws
+pub mod InstructionWords
+mod Examples

@@ -1,0 +1,56 @@
+ghost use Rattle.std.specs.Prelude.{◌≡◌, if◌then◌else◌};
+ghost use Rattle.arm_isa.specs.declared.classes.Class.TheVariants.{Undefined};
+ghost use Rattle.arm_isa.specs.Table.{is_multiply, class_of};
+
+use crate::fields::{bit, bits, has_bits_7_and_4};
+
+/// The classes of words (VL86C010 (ARM2) data manual, instruction set).
+#[derive(Clone, Copy, Debug, PartialEq, Eq)]
+pub enum Class {
+    /// Data processing.
+    Data,
+    /// MUL and MLA.
+    Multiply,
+    /// LDR and STR.
+    Single,
+    /// LDM and STM.
+    Block,
+    /// B and BL.
+    Branch,
+    /// SWI.
+    Swi,
+    /// Any other word: the processor takes its undefined trap.
+    Undefined,
+}
+
+/// Whether bits 27 to 22 and 7 to 4 of a word are those of MUL and MLA.
+fn is_multiply(word: u32) -> bool
+    ensures { result ≡ is_multiply word }
+{
+    bits(word, 27, 22) == 0 && bits(word, 7, 4) == 0b1001
+}
+
+fn undefined_if(set: bool, class: Class) -> Class
+    ensures { result ≡ (if set then Undefined else class) }
+{
+    if set { Class::Undefined } else { class }
+}
+
+/// The class of a word, by the bits that all words of the class share.
+pub fn class_of(word: u32) -> Class
+    ensures { result ≡ class_of word }
+{
+    if is_multiply(word) {
+        return Class::Multiply;
+    }
+    match bits(word, 27, 25) {
+        0b000 => undefined_if(has_bits_7_and_4(word), Class::Data),
+        0b001 => Class::Data,
+        0b010 => Class::Single,
+        0b011 => undefined_if(bit(word, 4), Class::Single),
+        0b100 => Class::Block,
+        0b101 => Class::Branch,
+        0b110 => Class::Undefined,
+        _ => undefined_if(!bit(word, 24), Class::Swi),
+    }
+}

@@ -1,0 +1,5 @@
+pub mod Operation
+pub mod Shift
+pub mod Digits
+pub mod Text
+pub mod Value

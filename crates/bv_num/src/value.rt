@@ -1,0 +1,72 @@
+ghost use Rattle.std.specs.Prelude.{◌≡◌, ◌≤◌, min};
+ghost use Rattle.bv_num.specs.Value.{behind_spaces, behind_sign, front_value, value_of, data_value};
+
+use crate::arithmetic::{TOO_BIG, narrow};
+
+/// Numbers of 32 bits are below this.
+const WORD_VALUES: u64 = 0x1_0000_0000;
+
+/// The text without the spaces that begin it.
+fn skip_spaces(text: &[u8]) -> &[u8]
+    ensures { result.now ≡ behind_spaces text.now }
+{
+    let mut rest = text;
+    while let [b' ', after @ ..] = rest {
+        rest = after;
+    }
+    rest
+}
+
+/// The value of the digits that begin a text, or `WORD_VALUES` where it is greater than that.
+fn capped_value(base: u32, text: &[u8]) -> u64
+    requires least { 2 ≤ base }
+    requires greatest { base ≤ 16 }
+    ensures { result ≡ min (front_value base text.now) WORD_VALUES }
+{
+    let mut value = 0;
+    for byte in text {
+        let Some(digit) = char::from(*byte).to_digit(base) else {
+            return value;
+        };
+        value = (value * u64::from(base) + u64::from(digit)).min(WORD_VALUES);
+    }
+    value
+}
+
+/// The text behind the sign that may begin it.
+fn skip_sign(text: &[u8]) -> &[u8]
+    ensures { result.now ≡ behind_sign text.now }
+{
+    match text {
+        [b'+' | b'-', after @ ..] => after,
+        _ => text,
+    }
+}
+
+/// VAL: the number that a text begins with, behind spaces and at most one sign; 0 where no digit stands there, and
+/// `TOO_BIG` past 32 bits. What follows the digits is ignored.
+pub fn value_of(text: &[u8]) -> Result<i32, u8>
+    ensures { result ≡ value_of text.now }
+{
+    let text = skip_spaces(text);
+    let size = capped_value(10, skip_sign(text)) as i64;
+    if text.first() == Some(&b'-') {
+        return narrow(-size);
+    }
+    narrow(size)
+}
+
+/// READ's number of an item of DATA: behind `&` the value of the hexadecimal digits of either case, which are 32 bits,
+/// and else VAL of the text. `TOO_BIG` where it is greater.
+pub fn data_value(text: &[u8]) -> Result<i32, u8>
+    ensures { result ≡ data_value text.now }
+{
+    let [b'&', digits @ ..] = text else {
+        return value_of(text);
+    };
+    let value = capped_value(16, digits);
+    if value >= WORD_VALUES {
+        return Err(TOO_BIG);
+    }
+    Ok((value as u32).cast_signed())
+}
