@@ -1,0 +1,78 @@
+-- Fronts of lists, and runs of bytes that pass a test.
+use Rattle.std.proofs.Common.{◌≡◌, ℕ, ◌≤◌, Bool, true, false, List, [], ◌∷◌, ◌++◌, length, refl, sym, ap, subst, ◌∙◌, arith, append_assoc, length-append, true≢false, Option, Some, None, MatchOption}
+use Rattle.bas_lex.specs.Bytes.{Each, NotFirst}
+use Rattle.bas_lex.specs.Scan.{IsRun}
+
+pub same_head : {A : Type 0} (x y : A) (xs ys : List A) → x ∷ xs ≡ y ∷ ys → x ≡ y
+same_head x y xs ys e = cc
+
+pub same_tail : {A : Type 0} (x y : A) (xs ys : List A) → x ∷ xs ≡ y ∷ ys → xs ≡ ys
+same_tail x y xs ys e = cc
+
+-- two fronts of one length are the same
+pub same_fronts : (xs ys rest rest' : List ℕ) → length xs ≡ length ys → xs ++ rest ≡ ys ++ rest' → (xs ≡ ys) × (rest ≡ rest')
+same_fronts [] [] rest rest' e same = (refl, same)
+same_fronts [] (y ∷ ys) rest rest' e same = absurd (omega (arith, e))
+same_fronts (x ∷ xs) [] rest rest' e same = absurd (omega (arith, e))
+same_fronts (x ∷ xs) (y ∷ ys) rest rest' e same =
+    let fronts = same_fronts xs ys rest rest' (omega (arith, e)) (same_tail x y _ _ same) in
+    ((λ i. same_head x y _ _ same i ∷ fronts.0 i), fronts.1)
+
+-- what passes a test doesn't fail it
+pub passes≢fails : (test : ℕ → Bool) (c : ℕ) → test c ≡ true → test c ≡ false → ⊥
+passes≢fails test c passes fails = true≢false (sym passes ∙ fails)
+
+-- a byte that passes a test stands first
+pub not_first : (test : ℕ → Bool) (text rest : List ℕ) (c : ℕ) → text ≡ c ∷ rest → test c ≡ true → NotFirst test text → ⊥
+not_first test text rest c e passes fails = passes≢fails test c passes (subst (NotFirst test) e fails)
+
+-- A run that goes to a byte which fails the test covers every other run.
+pub covers : (test : ℕ → Bool) (run other rest behind : List ℕ) → Each test other → NotFirst test rest → run ++ rest ≡ other ++ behind → (more : List ℕ) × (run ≡ other ++ more) × (behind ≡ more ++ rest)
+covers test run [] rest behind each stops e = (run, refl, sym e)
+covers test [] (c ∷ other) rest behind each stops e = absurd (not_first test rest _ c e each.0 stops)
+covers test (r ∷ run) (c ∷ other) rest behind each stops e =
+    let next = covers test run other rest behind each.1 stops (same_tail _ _ _ _ e) in
+    (next.0, (λ i. same_head _ _ _ _ e i ∷ next.1 i), next.2)
+
+pub each_back : (test : ℕ → Bool) (front back : List ℕ) → Each test (front ++ back) → Each test back
+each_back test [] back each = each
+each_back test (c ∷ front) back each = each_back test front back each.1
+
+pub each_join : (test : ℕ → Bool) (front back : List ℕ) → Each test front → Each test back → Each test (front ++ back)
+each_join test [] back each others = others
+each_join test (c ∷ front) back each others = (each.0, each_join test front back each.1 others)
+
+-- what was read of a run so far
+pub record ReadsRun (test : ℕ → Bool) (text rest : List ℕ) : Type 0 where
+  pub run : List ℕ
+  pub each : Each test run
+  pub split : text ≡ run ++ rest
+
+abbrev pub reads_nothing : (test : ℕ → Bool) (text : List ℕ) → ReadsRun test text text
+reads_nothing test text = record { run = []; each = tt; split = refl }
+
+abbrev pub reads_one : (test : ℕ → Bool) (text rest after : List ℕ) (c : ℕ) → rest ≡ c ∷ after → test c ≡ true → ReadsRun test text rest → ReadsRun test text after
+reads_one test text rest after c e passes r = record {
+  run = r.run ++ c ∷ [];
+  each = each_join test r.run (c ∷ []) r.each (passes, tt);
+  split = r.split ∙ ap (λ l. r.run ++ l) e ∙ sym (append_assoc r.run (c ∷ []) after);
+}
+
+abbrev pub run_read : (test : ℕ → Bool) (text rest : List ℕ) → ReadsRun test text rest → NotFirst test rest → IsRun test text rest
+run_read test text rest r stops = record { run = r.run; each = r.each; split = r.split; stops = stops }
+
+-- two runs up to a byte which fails the test are the same
+pub same_runs : (test : ℕ → Bool) (run other rest behind : List ℕ) → Each test run → Each test other → NotFirst test rest → NotFirst test behind → run ++ rest ≡ other ++ behind → (run ≡ other) × (rest ≡ behind)
+same_runs test run other rest behind each each' stops stops' e =
+    let f = covers test run other rest behind each' stops e in
+    let g = covers test other run behind rest each stops' (sym e) in
+    same_fronts run other rest behind (omega (arith, ap length f.1, ap length g.1, length-append other f.0, length-append run g.0)) e
+
+-- what an answer says, by what another says of it
+pub match_map : {T : Type 0} (o : Option T) (P P' : Type 0) (Q Q' : T → Type 0) → (P → P') → ((x : T) → Q x → Q' x) → MatchOption o P Q → MatchOption o P' Q'
+match_map None P P' Q Q' f g m = f m
+match_map (Some x) P P' Q Q' f g m = g x m
+
+-- what is left is no longer than the text
+pub reads_within : (test : ℕ → Bool) (text rest : List ℕ) → ReadsRun test text rest → length rest ≤ length text
+reads_within test text rest r = omega (arith, ap length r.split, length-append r.run rest)

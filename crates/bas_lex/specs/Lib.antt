@@ -1,0 +1,5 @@
+pub mod Bytes
+pub mod Kinds
+pub mod Cut
+pub mod Scan
+pub mod Next

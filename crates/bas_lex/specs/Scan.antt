@@ -1,0 +1,168 @@
+-- What the reader's parts answer: the longest symbol of some kinds at the front of a text.
+use Rattle.std.specs.Prelude.{nat_eq, nat_le, slice_get, if◌then◌else◌, ◌≡◌, ◌≢◌, ◌⊎◌, ℕ, ◌+◌, ◌≤◌, min, Bool, true, false, ◌||◌, ◌==◌, List, [], ◌∷◌, ◌++◌, length, Option, Some, None}
+use Rattle.std.specs.List.{starts_with}
+use Rattle.bas_lex.specs.declared.front.Front.{Front}
+use Rattle.bas_lex.specs.declared.name.NameEnd.{NameEnd}
+use Rattle.bas_lex.specs.declared.number.Digits.{Digits}
+use Rattle.bas_lex.specs.declared.number.Radix.{Radix}
+use Rattle.bas_lex.specs.declared.number.TheConstants.{VALUE_CAP}
+use Rattle.bas_lex.specs.declared.symbol.SymKind.{SymKind}
+use Rattle.bas_lex.specs.declared.symbol.SymKind.TheVariants as kinds
+use Rattle.bas_lex.specs.declared.text.Part.{Part}
+use Rattle.bas_lex.specs.declared.text.Part.TheVariants as parts
+use Rattle.bas_lex.specs.Bytes.{quotation_mark, dollar_sign, percent_sign, open_bracket, is_in_name, Each, NotFirst}
+use Rattle.bas_lex.specs.Kinds.{IsSuffix, suffix_bytes, bracket_bytes, IsPlainName, IsSystemName, IsName, IsCall, IsLabel, IsSingle, IsPair, IsNumber, is_digit, value_of, doubled, IsText, IsLineRef, IsSign}
+use Rattle.bas_lex.specs.Cut.{Begins, Longest}
+
+-- the longest symbol at the front of a text, or that none begins there
+abbrev pub Best : (SymKind → List ℕ → List ℕ → Type 0) → List ℕ → Option Front → Type 0
+Best symbol text None = (kind : SymKind) (size : ℕ) → Begins symbol text kind size → ⊥
+Best symbol text (Some front) = Longest symbol text front.kind front.size
+
+-- the symbols of one kind: names that begin with a letter, `_` or the pound sign
+abbrev pub Names : SymKind → List ℕ → List ℕ → Type 0
+Names (kinds.Name suffix bracket) bytes rest = IsPlainName suffix bracket bytes
+Names kind bytes rest = ⊥
+
+-- the name `@%`
+abbrev pub SystemNames : SymKind → List ℕ → List ℕ → Type 0
+SystemNames (kinds.Name suffix bracket) bytes rest = IsSystemName suffix bracket bytes
+SystemNames kind bytes rest = ⊥
+
+-- a call, or its token alone
+abbrev pub Calls : Bool → SymKind → List ℕ → List ℕ → Type 0
+Calls function (kinds.Call is_function bracket) bytes rest = (is_function ≡ function) × IsCall function bracket bytes
+Calls function (kinds.Token n) bytes rest = IsSingle n bytes
+Calls function kind bytes rest = ⊥
+
+-- labels, with the assembler on
+abbrev pub Labels : Bool → SymKind → List ℕ → List ℕ → Type 0
+Labels asm kinds.Label bytes rest = (asm ≡ true) × IsLabel bytes
+Labels asm kind bytes rest = ⊥
+
+-- numbers of one radix
+abbrev pub Numbers : Radix → SymKind → List ℕ → List ℕ → Type 0
+Numbers radix (kinds.Number value) bytes rest = IsNumber radix value bytes rest
+Numbers radix kind bytes rest = ⊥
+
+-- strings
+abbrev pub Texts : SymKind → List ℕ → List ℕ → Type 0
+Texts kinds.Text bytes rest = IsText bytes
+Texts kind bytes rest = ⊥
+
+-- references to lines
+abbrev pub LineRefs : SymKind → List ℕ → List ℕ → Type 0
+LineRefs (kinds.LineRef number) bytes rest = IsLineRef number bytes
+LineRefs kind bytes rest = ⊥
+
+-- keywords
+abbrev pub Tokens : SymKind → List ℕ → List ℕ → Type 0
+Tokens (kinds.Token n) bytes rest = IsSingle n bytes ⊎ IsPair n bytes
+Tokens kind bytes rest = ⊥
+
+-- signs
+abbrev pub Signs : SymKind → List ℕ → List ℕ → Type 0
+Signs (kinds.Mark n) bytes rest = IsSign n bytes
+Signs kind bytes rest = ⊥
+
+-- The text has a run of bytes that pass a test, and then a rest that begins with none.
+pub record IsRun (test : ℕ → Bool) (text rest : List ℕ) : Type 0 where
+  pub run : List ℕ
+  pub each : Each test run
+  pub split : text ≡ run ++ rest
+  pub stops : NotFirst test rest
+
+-- `%`
+abbrev pub is_percent : ℕ → Bool
+is_percent c = c == percent_sign
+
+-- `%` or `$`
+abbrev pub is_suffix : ℕ → Bool
+is_suffix c = c == percent_sign || c == dollar_sign
+
+-- an opening bracket
+abbrev pub is_bracket : ℕ → Bool
+is_bracket c = c == open_bracket
+
+-- The text has this suffix first, and no other.
+pub record SplitsSuffix (text : List ℕ) (suffix : ℕ) (rest : List ℕ) : Type 0 where
+  pub is_suffix_byte : IsSuffix suffix
+  pub split : text ≡ suffix_bytes suffix ++ rest
+  pub bare : suffix ≡ 0 → NotFirst is_suffix text
+
+-- The text has a bracket first, or none.
+pub record SplitsBracket (text : List ℕ) (bracket : Bool) (rest : List ℕ) : Type 0 where
+  pub split : text ≡ bracket_bytes bracket ++ rest
+  pub bare : bracket ≡ false → NotFirst is_bracket text
+
+-- The text has `%` first, or none.
+abbrev pub SplitsPercent : List ℕ → List ℕ → Type 0
+SplitsPercent text rest = (text ≡ percent_sign ∷ rest) ⊎ ((text ≡ rest) × NotFirst is_percent text)
+
+-- The most that goes on with a name.
+pub record EndsName (text : List ℕ) (end : NameEnd) : Type 0 where
+  pub behind_letters : List ℕ
+  pub behind_suffix : List ℕ
+  pub rest : List ℕ
+  pub letters : IsRun is_in_name text behind_letters
+  pub suffix : SplitsSuffix behind_letters end.suffix behind_suffix
+  pub bracket : SplitsBracket behind_suffix end.bracket rest
+  pub size : end.size + length rest ≡ length text
+
+-- A label's name at the front, with the rest behind the longest one.
+pub record EndsLabel (text rest : List ℕ) : Type 0 where
+  pub name : List ℕ
+  pub suffix : ℕ
+  pub no_string : suffix ≢ dollar_sign
+  pub is_name : IsName suffix false name
+  pub split : text ≡ name ++ rest
+  pub longest : (other rest' : List ℕ) (s : ℕ) → s ≢ dollar_sign → IsName s false other → text ≡ other ++ rest' → length other ≤ length name
+
+-- no label's name stands at the front
+abbrev pub NoLabelName : List ℕ → Type 0
+NoLabelName text = (name rest : List ℕ) (suffix : ℕ) → IsName suffix false name → text ≡ name ++ rest → ⊥
+
+-- The digits that stand first, their number, and their value, which counts only below the cap.
+pub record HasDigits (radix : Radix) (text : List ℕ) (digits : Digits) : Type 0 where
+  pub rest : List ℕ
+  pub run : IsRun (is_digit radix) text rest
+  pub value : digits.value ≡ min (value_of radix run.run) VALUE_CAP
+  pub count : digits.count ≡ length run.run
+
+-- a quotation mark
+abbrev pub is_quote : ℕ → Bool
+is_quote c = c == quotation_mark
+
+-- what stands first of a string's bytes behind its first quotation mark
+abbrev pub IsPart : List ℕ → Part → Type 0
+IsPart text (parts.Doubled after) = text ≡ quotation_mark ∷ quotation_mark ∷ after.now
+IsPart text parts.Closing = (rest : List ℕ) × (text ≡ quotation_mark ∷ rest) × NotFirst is_quote rest
+IsPart text (parts.Other after) = (c : ℕ) × (text ≡ c ∷ after.now) × (c ≢ quotation_mark)
+IsPart text parts.End = text ≡ []
+
+-- So many bytes stand up to a quotation mark that closes a string, and with it.
+pub record Closes (text : List ℕ) (size : ℕ) : Type 0 where
+  pub contents : List ℕ
+  pub rest : List ℕ
+  pub split : text ≡ doubled contents ++ quotation_mark ∷ rest
+  pub size_is : size ≡ length (doubled contents) + 1
+
+-- the last quotation mark that closes a string, or that none does
+abbrev pub ClosesLast : List ℕ → Option ℕ → Type 0
+ClosesLast text None = (size : ℕ) → Closes text size → ⊥
+ClosesLast text (Some size) = Closes text size × ((other : ℕ) → Closes text other → other ≤ size)
+
+-- the signs of a part of the table
+abbrev pub SignsOf : List (List ℕ) → SymKind → List ℕ → List ℕ → Type 0
+SignsOf table (kinds.Mark n) bytes rest = slice_get table n ≡ Some bytes
+SignsOf table kind bytes rest = ⊥
+
+-- the longer of two symbols at the front
+abbrev pub longer_of : Option Front → Front → Option Front
+longer_of None front = Some front
+longer_of (Some old) front = if nat_le front.size old.size then Some old else Some front
+
+-- what was found before, or the sign of this number where it is longer and stands at the front
+abbrev pub longer_sign : Option Front → ℕ → List ℕ → List ℕ → Option Front
+longer_sign found number sign text =
+    if starts_with nat_eq text sign then longer_of found (record { kind = kinds.Mark number; size = length sign }) else found

@@ -1,0 +1,21 @@
+//! The symbols of a line of tokenised BASIC V: a line's text cut into the longest symbol at each place.
+#![tactic(auto)]
+
+mod front;
+mod laws;
+mod name;
+mod number;
+mod scan;
+mod sign;
+mod symbol;
+#[cfg(test)]
+mod tests;
+mod text;
+mod token;
+
+pub use laws::one_cut;
+pub use number::Radix;
+pub use scan::symbols;
+pub use sign::{CLOSE_SQUARE, COLON, OPEN_SQUARE};
+pub use symbol::{LexError, Mode, Sym, SymKind, SymbolRun};
+pub use token::{FN, PROC};
