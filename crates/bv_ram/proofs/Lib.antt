@@ -1,0 +1,6 @@
+mod Sharing
+mod Shown
+mod Values
+mod Generic
+mod Bytes
+pub mod Puts
