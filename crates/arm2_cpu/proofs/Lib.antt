@@ -1,0 +1,17 @@
+mod ShiftLaws
+mod OperandLaws
+mod ProductLaws
+mod BranchLaws
+mod MemoryReads
+pub mod MemoryLaws
+mod BlockLaws
+mod BlockLoops
+pub mod RegisterLaws
+pub mod StepBasics
+pub mod ValueLaws
+pub mod StepLaws
+pub mod TransferLaws
+pub mod TrapLaws
+pub mod SignedLaws
+mod Examples
+pub mod MemoryFunctions

@@ -1,0 +1,17 @@
+pub mod Memory
+pub mod Registers
+pub mod Conditions
+pub mod Shifts
+pub mod Operations
+pub mod Outcomes
+pub mod Operands
+pub mod Data
+pub mod Multiply
+pub mod Branch
+pub mod Access
+pub mod Single
+pub mod Block
+pub mod Unpredictable
+pub mod Step
+pub mod Window
+pub mod WindowLaws

@@ -1,0 +1,13 @@
+use bv_io::Trap;
+
+/// What one instruction came to.
+#[derive(Clone, Copy, Debug, PartialEq, Eq)]
+pub enum CpuEvent {
+    /// It was carried out, or its condition failed.
+    Ran,
+    /// A software interrupt with this number of 24 bits. The PC is behind the instruction.
+    Swi(u32),
+    /// It was not carried out, and nothing changed. `address` is the refused address of an access to memory
+    /// (`Trap::Data`), and otherwise that of the instruction.
+    Trap { kind: Trap, address: u32 },
+}

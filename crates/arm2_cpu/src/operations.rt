@@ -1,0 +1,127 @@
+ghost use Rattle.std.specs.Prelude.{◌≡◌, pos, ◌+ℤ◌};
+ghost use Rattle.std.specs.Int.{from_bool};
+ghost use Rattle.arm2_cpu.specs.Operations.{is_signed_word, added, is_test, logical, computed};
+
+use crate::shifts::Shifted;
+
+/// `Rn AND operand`.
+pub const AND: u8 = 0;
+
+/// `Rn EOR operand`.
+pub const EOR: u8 = 1;
+
+/// `Rn - operand`.
+pub const SUB: u8 = 2;
+
+/// `operand - Rn`.
+pub const RSB: u8 = 3;
+
+/// `Rn + operand`.
+pub const ADD: u8 = 4;
+
+/// `Rn + operand + C`.
+pub const ADC: u8 = 5;
+
+/// `Rn - operand - NOT C`.
+pub const SBC: u8 = 6;
+
+/// `operand - Rn - NOT C`.
+pub const RSC: u8 = 7;
+
+/// The flags of `Rn AND operand`.
+pub const TST: u8 = 8;
+
+/// The flags of `Rn EOR operand`.
+pub const TEQ: u8 = 9;
+
+/// The flags of `Rn - operand`.
+pub const CMP: u8 = 10;
+
+/// The flags of `Rn + operand`.
+pub const CMN: u8 = 11;
+
+/// `Rn OR operand`.
+pub const ORR: u8 = 12;
+
+/// The operand.
+pub const MOV: u8 = 13;
+
+/// `Rn AND NOT operand`.
+pub const BIC: u8 = 14;
+
+/// What an operation gives.
+#[derive(Clone, Copy)]
+pub struct Computed {
+    pub value: u32,
+    pub carry: bool,
+    pub overflow: bool,
+}
+
+/// Signed words are below this, and not below its negative.
+const SIGNED_WORDS: i64 = 0x8000_0000;
+
+fn is_signed_word(n: i64) -> bool
+    ensures { result ≡ is_signed_word n }
+{
+    -SIGNED_WORDS <= n && n < SIGNED_WORDS
+}
+
+fn exact_signed_sum(a: i32, b: i32, carry: bool) -> i64
+    ensures { result ≡ a +ℤ b +ℤ pos (from_bool carry) }
+{
+    i64::from(a) + i64::from(b) + i64::from(carry)
+}
+
+#[tactic(auto, unfolding(crate::specs::Operations::added))]
+fn add(a: u32, b: u32, carry: bool) -> Computed
+    ensures { result ≡ added a b carry }
+{
+    let total = u64::from(a) + u64::from(b) + u64::from(carry);
+    let signed = exact_signed_sum(a.cast_signed(), b.cast_signed(), carry);
+    Computed {
+        value: (total % (1 << 32)) as u32,
+        carry: 1 << 32 <= total,
+        overflow: !is_signed_word(signed),
+    }
+}
+
+/// Whether an operation only sets flags.
+pub(crate) fn is_test(op: u8) -> bool
+    ensures { result ≡ is_test op }
+{
+    TST <= op && op <= CMN
+}
+
+#[tactic(auto, unfolding(crate::specs::Operations::logical))]
+fn logical(op: u8, a: u32, b: u32) -> u32
+    ensures { result ≡ logical op a b }
+{
+    match op {
+        AND | TST => a & b,
+        EOR | TEQ => a ^ b,
+        ORR => a | b,
+        MOV => b,
+        BIC => a & !b,
+        _ => !b,
+    }
+}
+
+#[tactic(auto, unfolding(crate::specs::Operations::computed))]
+/// An operation on a first operand and a shifted second one, with C and V as they were.
+pub(crate) fn compute(op: u8, a: u32, b: Shifted, carry: bool, overflow: bool) -> Computed
+    ensures { result ≡ computed op a b carry overflow }
+{
+    match op {
+        SUB | CMP => add(a, !b.value, true),
+        RSB => add(b.value, !a, true),
+        ADD | CMN => add(a, b.value, false),
+        ADC => add(a, b.value, carry),
+        SBC => add(a, !b.value, carry),
+        RSC => add(b.value, !a, carry),
+        _ => Computed {
+            value: logical(op, a, b.value),
+            carry: b.carry,
+            overflow,
+        },
+    }
+}

@@ -1,0 +1,2 @@
+mod small_ram;
+mod steps;
