@@ -1,3 +1,4 @@
 pub mod Memory
-pub mod StepLaws
 pub mod Images
+mod Outputs
+pub mod StepLaws

@@ -1,12 +1,14 @@
 -- The memory of a loaded image: its words stand where they were put, and the arena is all zero.
-use Rattle.std.proofs.Common.{◌≡◌, ℕ, ◌+◌, ◌-◌, ◌*◌, ◌/◌, ◌%◌, ◌<◌, ◌≤◌, List, [], ◌∷◌, ◌++◌, length, take, drop, flat_map, slice_index, Some, None, true, nat_lt, lt-ltb, add-zero, if◌then◌else◌, refl, sym, ap, subst, ◌∙◌, arith, append_assoc, length-append}
+use Rattle.std.proofs.Common.{◌≡◌, ℕ, ◌+◌, ◌-◌, ◌*◌, ◌/◌, ◌%◌, ◌<◌, ◌≤◌, List, [], ◌∷◌, ◌++◌, length, take, drop, flat_map, slice_index, Some, None, true, false, ◌&&◌, nat_le, nat_lt, le-leb, lt-ltb, add-zero, if◌then◌else◌, refl, sym, ap, subst, ◌∙◌, arith, append_assoc, length-append}
 use Rattle.std.proofs.lemmas.Grind.{common_steps}
 use Rattle.bv_io.specs.declared.memory_map.TheConstants.{ARENA_START, ARENA_BYTES, ARENA_END}
 use Rattle.bv_io.specs.Bytes.{zeros}
 use Rattle.bv_io.proofs.Zeros.{length-zeros, zeros-add}
 use Rattle.arm2_machine.specs.declared.layout.TheConstants.{RAM_END, IMAGE_START, IMAGE_WORDS}
-use Rattle.arm2_machine.specs.Words.{word_bytes, word_at, fetched, AreWords}
-use Rattle.arm2_machine.specs.Machine.{loaded_ram, arena_of}
+use Rattle.bv_ram.specs.Words.{put_at, word_at as bytes_word}
+use Rattle.arm2_cpu.specs.Memory.{byte_at, word_at, with_bytes, read_word}
+use Rattle.arm2_machine.specs.Words.{word_bytes, AreWords}
+use Rattle.arm2_machine.specs.Machine.{board_space, fetched, loaded_ram, arena_of}
 
 pub length-flat_map-word_bytes : (words : List ℕ) → length (flat_map word_bytes words) ≡ 4 * length words
 length-flat_map-word_bytes [] = refl
@@ -19,15 +21,40 @@ lengths start more rest words short is =
     ∙ (λ i. start + (length-flat_map-word_bytes words i + length-zeros rest i))
     ∙ omega (arith, short, is)
 
-pub length-loaded_ram : (words : List ℕ) → length words ≤ IMAGE_WORDS → length (loaded_ram words) ≡ RAM_END
+pub loaded_ram_length : (words : List ℕ) → length words ≤ IMAGE_WORDS → length (loaded_ram words) ≡ RAM_END
 unfolding loaded_ram
-length-loaded_ram words short = lengths IMAGE_START 3932160 (15728640 - 4 * length words) words (omega arith) refl
+loaded_ram_length words short = lengths IMAGE_START 3932160 (15728640 - 4 * length words) words (omega arith) refl
 
 drop_front : (xs ys : List ℕ) (n : ℕ) → length xs ≡ n → drop n (xs ++ ys) ≡ ys
 drop_front xs ys n is = grind (arith, common_steps)
 
 take_front : (xs ys : List ℕ) (n : ℕ) → length xs ≡ n → take n (xs ++ ys) ≡ xs
 take_front xs ys n is = grind (arith, common_steps)
+
+-- the bytes of an image's words lie in the RAM
+pub bytes_of_words : (words : List ℕ) → length words ≤ IMAGE_WORDS → IMAGE_START + length (flat_map word_bytes words) ≤ RAM_END
+bytes_of_words words short = omega (arith, short, length-flat_map-word_bytes words)
+
+take_zeros : (n m : ℕ) → take n (zeros (n + m)) ≡ zeros n
+take_zeros n m = ap (take n) (zeros-add n m) ∙ take_front (zeros n) (zeros m) n (length-zeros n)
+
+drop_zeros : (n m : ℕ) → drop n (zeros (n + m)) ≡ zeros m
+drop_zeros n m = ap (drop n) (zeros-add n m) ∙ drop_front (zeros n) (zeros m) n (length-zeros n)
+
+-- bytes put among zeros
+zeros_with : (before size all : ℕ) (bytes : List ℕ) → length bytes ≡ size → before + size ≤ all → put_at (zeros all) before bytes ≡ zeros before ++ (bytes ++ zeros (all - before - size))
+zeros_with before size all bytes is fits =
+    let first : all ≡ before + (all - before) = omega (arith, fits) in
+    let second : all ≡ before + size + (all - before - size) = omega (arith, fits) in
+    append_assoc (take before (zeros all)) bytes (drop (before + length bytes) (zeros all))
+    ∙ (λ i. take before (zeros (first i)) ++ (bytes ++ drop (before + is i) (zeros (second i))))
+    ∙ (λ i. take_zeros before (all - before) i ++ (bytes ++ drop_zeros (before + size) (all - before - size) i))
+
+-- the words of an image among zeros
+pub zeros_with_words : (words : List ℕ) → length words ≤ IMAGE_WORDS → put_at (zeros RAM_END) IMAGE_START (flat_map word_bytes words) ≡ loaded_ram words
+unfolding loaded_ram
+zeros_with_words words short =
+    zeros_with IMAGE_START (4 * length words) RAM_END (flat_map word_bytes words) (length-flat_map-word_bytes words) (omega (arith, short))
 
 -- a part that lies in the middle of zeros
 middle : (before part after : ℕ) (rest : List ℕ) → take part (drop before (zeros (before + (part + after)) ++ rest)) ≡ zeros part
@@ -59,31 +86,61 @@ word_from_bytes w small = omega arith
 slice_index-append : (front back : List ℕ) (a k : ℕ) → length front ≡ a → slice_index (front ++ back) (a + k) ≡ slice_index back k
 slice_index-append front back a k is = grind (arith, common_steps)
 
+-- the supervisor may use all of the RAM
+allowed : (a : ℕ) → a < RAM_END → board_space.allows false a ≡ true
+allowed a inside =
+    let low : nat_le 0 a ≡ true = le-leb 0 a (omega arith) in
+    let high : nat_lt a (0 + RAM_END) ≡ true = lt-ltb a RAM_END inside in
+    (λ i. low i && high i)
+
+-- the RAM begins at address 0
+byte_here : (ram : List ℕ) (a : ℕ) → byte_at board_space ram a ≡ slice_index ram a
+unfolding byte_at
+byte_here ram a = ap (slice_index ram) (let e : a - 0 ≡ a = omega arith in e)
+
+word_here : (ram : List ℕ) (a : ℕ) → word_at board_space ram a ≡ slice_index ram a + slice_index ram (a + 1) * 256 + slice_index ram (a + 2) * 65536 + slice_index ram (a + 3) * 16777216
+unfolding word_at
+word_here ram a = λ i. byte_here ram a i + byte_here ram (a + 1) i * 256 + byte_here ram (a + 2) i * 65536 + byte_here ram (a + 3) i * 16777216
+
+-- a word of the processor's memory is that of its four bytes
+pub same_word : (ram : List ℕ) (a : ℕ) → word_at board_space ram a ≡ bytes_word ram a
+same_word ram a = word_here ram a ∙ omega arith
+
+-- bytes that are put in the RAM
+pub same_put : (ram : List ℕ) (a : ℕ) (new : List ℕ) → with_bytes board_space ram a new ≡ put_at ram a new
+unfolding with_bytes
+same_put ram a new =
+    let e : a - 0 ≡ a = omega arith in
+    (λ i. take (e i) ram ++ new ++ drop (e i + length new) ram)
+
+fetched-is : (ram : List ℕ) (a : ℕ) → a < RAM_END → fetched ram a ≡ Some (word_at board_space ram a)
+unfolding read_word
+fetched-is ram a inside = ap (λ b. if b then Some (word_at board_space ram a) else None) (allowed a inside)
+
 -- a word is fetched where its bytes stand
-fetched_at : (front back : List ℕ) (a w : ℕ) → length front ≡ a → w < 4294967296 → fetched (front ++ (word_bytes w ++ back)) a ≡ Some w
-fetched_at front back a w is small =
+fetched_at : (front back : List ℕ) (a w : ℕ) → length front ≡ a → a < RAM_END → w < 4294967296 → fetched (front ++ (word_bytes w ++ back)) a ≡ Some w
+fetched_at front back a w is inside small =
     let ram = front ++ (word_bytes w ++ back) in
-    let inside : nat_lt (a + 3) (length ram) ≡ true = lt-ltb (a + 3) (length ram) (omega (arith, is, length-append front (word_bytes w ++ back))) in
     let first : slice_index ram a ≡ w % 256 = ap (slice_index ram) (sym (add-zero a)) ∙ slice_index-append front _ a 0 is in
-    ap (λ b. if b then Some (word_at ram a) else None) inside
-    ∙ ap (λ n. Some n)
-    ((λ i. first i + 256 * slice_index-append front (word_bytes w ++ back) a 1 is i + 65536 * slice_index-append front (word_bytes w ++ back) a 2 is i + 16777216 * slice_index-append front (word_bytes w ++ back) a 3 is i)
-    ∙ word_from_bytes w small)
+    fetched-is ram a inside ∙ ap (λ n. Some n)
+    (word_here ram a
+    ∙ (λ i. first i + slice_index-append front (word_bytes w ++ back) a 1 is i * 256 + slice_index-append front (word_bytes w ++ back) a 2 is i * 65536 + slice_index-append front (word_bytes w ++ back) a 3 is i * 16777216)
+    ∙ omega (arith, word_from_bytes w small))
 
 -- words stand where their bytes were put
-has_at : (words front back : List ℕ) (a : ℕ) → length front ≡ a → AreWords words → HasAt (front ++ (flat_map word_bytes words ++ back)) a words
-has_at [] front back a is small = tt
-has_at (w ∷ ws) front back a is small = (
-  ap (λ l. fetched (front ++ l) a) (append_assoc (word_bytes w) (flat_map word_bytes ws) back) ∙ fetched_at front (flat_map word_bytes ws ++ back) a w is small.0,
+has_at : (words front back : List ℕ) (a : ℕ) → length front ≡ a → a + 4 * length words ≤ RAM_END → AreWords words → HasAt (front ++ (flat_map word_bytes words ++ back)) a words
+has_at [] front back a is inside small = tt
+has_at (w ∷ ws) front back a is inside small = (
+  ap (λ l. fetched (front ++ l) a) (append_assoc (word_bytes w) (flat_map word_bytes ws) back) ∙ fetched_at front (flat_map word_bytes ws ++ back) a w is (omega (arith, inside)) small.0,
   subst (λ l. HasAt l (a + 4) ws)
       (append_assoc front (word_bytes w) _ ∙ ap (λ l. front ++ l) (sym (append_assoc (word_bytes w) _ back)))
-      (has_at ws (front ++ word_bytes w) back (a + 4) (length-append front (word_bytes w) ∙ omega (arith, is)) small.1),
+      (has_at ws (front ++ word_bytes w) back (a + 4) (length-append front (word_bytes w) ∙ omega (arith, is)) (omega (arith, inside)) small.1),
 )
 
 -- the words of a loaded image stand in its memory
-pub loaded_has : (words : List ℕ) → AreWords words → HasAt (loaded_ram words) IMAGE_START words
+pub loaded_has : (words : List ℕ) → length words ≤ IMAGE_WORDS → AreWords words → HasAt (loaded_ram words) IMAGE_START words
 unfolding loaded_ram
-loaded_has words small = has_at words (zeros IMAGE_START) _ IMAGE_START (length-zeros IMAGE_START) small
+loaded_has words short small = has_at words (zeros IMAGE_START) _ IMAGE_START (length-zeros IMAGE_START) (omega (arith, short)) small
 
 pub has_front : (ram : List ℕ) (a : ℕ) (ws vs : List ℕ) → HasAt ram a (ws ++ vs) → HasAt ram a ws
 has_front ram a [] vs h = tt

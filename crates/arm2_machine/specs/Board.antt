@@ -4,8 +4,10 @@ use Rattle.std.specs.Coded.{Coded, code_by, coded×, coded_ℕ, coded_bool}
 use Rattle.bv_io.specs.declared.report.RunEnd.{RunEnd}
 use Rattle.bv_io.specs.declared.report.RunEnd.TheVariants as ends
 use Rattle.bv_io.specs.Runs.{Turn, Goes, Stops, End, Reports, Breaks, Progress, At, Ended}
-use Rattle.arm2_machine.specs.declared.processor.Happened.{Happened}
-use Rattle.arm2_machine.specs.declared.processor.Happened.TheVariants as happened
+use Rattle.arm2_machine.specs.declared.step.Output.{Output}
+use Rattle.arm2_machine.specs.declared.step.Output.TheVariants as outputs
+use Rattle.arm2_machine.specs.declared.step.Happened.{Happened}
+use Rattle.arm2_machine.specs.declared.step.Happened.TheVariants as happened
 use Rattle.arm2_machine.specs.Machine.{Machine, machine_code}
 
 -- a board as its callers see it: its machine, the number of instructions made, and whether its run has ended
@@ -22,10 +24,15 @@ board_code =
     (λ p. record { machine = p.0; steps = p.1.0; closed = p.1.1 })
     (λ _. refl)
 
+-- the bytes of an output
+abbrev pub bytes_of : Output → List ℕ
+bytes_of outputs.Nothing = []
+bytes_of (outputs.Byte byte) = byte ∷ []
+bytes_of outputs.NewLine = 10 ∷ 13 ∷ []
+
 -- a step by what it answers and the state that it leaves
 abbrev pub turn_of : Happened → Machine → Turn Machine End
-turn_of happened.Ran m = Goes m []
-turn_of (happened.Wrote byte) m = Goes m (byte ∷ [])
+turn_of (happened.Went output) m = Goes m (bytes_of output)
 turn_of (happened.Over report) m = Stops m [] (Reports report)
 turn_of (happened.Broke kind address) m = Stops m [] (Breaks kind address)
 

@@ -1,6 +1,6 @@
 pub mod Words
-pub mod Actions
 pub mod Machine
+pub mod Reports
 pub mod Step
 pub mod Board
 pub mod Image

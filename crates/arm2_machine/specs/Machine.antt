@@ -1,24 +1,47 @@
 -- The board's state. This project's own, but for the registers, which are the ARM2's.
-use Rattle.std.specs.Prelude.{ℕ, ◌-◌, ◌*◌, List, ◌++◌, length, take, drop, flat_map, replicate, refl}
-use Rattle.std.specs.Coded.{Coded, code_by, coded×, coded_ℕ, coded_list}
-use Rattle.bv_io.specs.declared.memory_map.TheConstants.{ARENA_START, ARENA_BYTES}
+use Rattle.std.specs.Prelude.{ℕ, ◌-◌, ◌*◌, Bool, true, false, List, ◌++◌, length, take, drop, flat_map, replicate, Option, refl}
+use Rattle.std.specs.Coded.{Coded, code_by, coded×, coded_ℕ, coded_bool, coded_list}
+use Rattle.std.proofs.Common.{lit≤}
+use Rattle.bv_io.specs.declared.memory_map.TheConstants.{ARENA_START, ARENA_END, ARENA_BYTES}
 use Rattle.bv_io.specs.Bytes.{zeros}
+use Rattle.arm2_cpu.specs.declared.regs.Regs.{Regs}
+use Rattle.arm2_cpu.specs.Memory.{Space, IsLawful, read_word}
+use Rattle.arm2_cpu.specs.Window.{window}
+use Rattle.arm2_cpu.specs.WindowLaws.{window-lawful}
 use Rattle.arm2_machine.specs.declared.layout.TheConstants.{RAM_END, IMAGE_START}
 use Rattle.arm2_machine.specs.Words.{word_bytes}
 
--- R0 to R12, the address of the next instruction, the memory, and the input that is left
+-- the RAM, of which user mode may use the arena alone
+abbrev pub board_space : Space
+board_space = window 0 RAM_END ARENA_START ARENA_END
+
+pub board_space-lawful : IsLawful board_space
+board_space-lawful = window-lawful 0 RAM_END ARENA_START ARENA_END refl refl refl refl (lit≤ tt) (lit≤ tt)
+
+-- the word that the supervisor fetches at an address
+abbrev pub fetched : List ℕ → ℕ → Option ℕ
+fetched ram a = read_word board_space ram false a
+
+-- the processor's registers, the memory, and the input that is left
 pub record Machine : Type 0 where
-  pub registers : List ℕ
-  pub pc : ℕ
+  pub regs : Regs
   pub ram : List ℕ
   pub input : List ℕ
+
+-- registers are stored as the tuple of their parts
+abbrev pub regs_code : Coded Regs
+regs_code =
+    code_by (List ℕ × (ℕ × (ℕ × (ℕ × (ℕ × (ℕ × (ℕ × Bool))))))) (coded× (coded_list coded_ℕ) (coded× coded_ℕ (coded× coded_ℕ (coded× coded_ℕ (coded× coded_ℕ (coded× coded_ℕ (coded× coded_ℕ coded_bool)))))))
+    (λ r. (r.low, (r.user13, (r.user14, (r.svc13, (r.svc14, (r.pc, (r.psr, r.svc))))))))
+    (λ p. record { low = p.0; user13 = p.1.0; user14 = p.1.1.0; svc13 = p.1.1.1.0; svc14 = p.1.1.1.1.0; pc = p.1.1.1.1.1.0; psr = p.1.1.1.1.1.1.0; svc = p.1.1.1.1.1.1.1 })
+    (λ _. refl)
 
 -- a machine is stored as the tuple of its parts
 abbrev pub machine_code : Coded Machine
 machine_code =
-    code_by (List ℕ × (ℕ × (List ℕ × List ℕ))) (coded× (coded_list coded_ℕ) (coded× coded_ℕ (coded× (coded_list coded_ℕ) (coded_list coded_ℕ))))
-    (λ m. (m.registers, (m.pc, (m.ram, m.input))))
-    (λ p. record { registers = p.0; pc = p.1.0; ram = p.1.1.0; input = p.1.1.1 })
+    code_by (Regs × (List ℕ × List ℕ)) (coded× regs_code (coded× (coded_list coded_ℕ) (coded_list coded_ℕ)))
+    (λ m. (m.regs, (m.ram, m.input)))
+    (λ p. record { regs = p.0; ram = p.1.0; input = p.1.1 })
     (λ _. refl)
 
 -- The memory with these words from an image's place on, and 0 elsewhere. It stays closed, so that no proof counts
@@ -26,9 +49,13 @@ machine_code =
 unfoldable pub loaded_ram : List ℕ → List ℕ
 loaded_ram words = zeros IMAGE_START ++ (flat_map word_bytes words ++ zeros (RAM_END - IMAGE_START - 4 * length words))
 
+-- the registers at the start of a run: all 0, no flag set, in supervisor mode at the image's first word
+abbrev pub first_regs : Regs
+first_regs = record { low = replicate 13 0; user13 = 0; user14 = 0; svc13 = 0; svc14 = 0; pc = IMAGE_START; psr = 0; svc = true }
+
 -- the board at its start
 abbrev pub loaded : List ℕ → List ℕ → Machine
-loaded words input = record { registers = replicate 13 0; pc = IMAGE_START; ram = loaded_ram words; input = input }
+loaded words input = record { regs = first_regs; ram = loaded_ram words; input = input }
 
 -- the arena's bytes
 unfoldable pub arena_of : List ℕ → List ℕ

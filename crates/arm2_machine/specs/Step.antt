@@ -1,68 +1,90 @@
--- One instruction of the board, and its run under a bound. The software interrupts and reports are this project's own.
-use Rattle.std.specs.Prelude.{ℕ, ◌+◌, ◌%◌, ◌==◌, if◌then◌else◌, List, [], ◌∷◌, slice_index, slice_set, Option, Some, None}
-use Rattle.std.specs.Int.{w32, cast_signed}
+-- One instruction of the board, and its run under a bound. The calls, the entries and the reports are this project's own.
+use Rattle.std.specs.Prelude.{ℕ, ◌+◌, ◌-◌, ◌%◌, ◌^◌, ◌==◌, ◌&&◌, nat_le, nat_lt, not, Bool, true, if◌then◌else◌, List, [], ◌∷◌, slice_index, slice_set, Option, Some, None}
 use Rattle.bv_io.specs.declared.report.Report.{Report}
-use Rattle.bv_io.specs.declared.report.Report.TheVariants as reports
 use Rattle.bv_io.specs.declared.report.Trap.{Trap}
 use Rattle.bv_io.specs.declared.report.Trap.TheVariants as traps
 use Rattle.bv_io.specs.Outcome.{Outcome}
 use Rattle.bv_io.specs.Runs.{Turn, Goes, Stops, End, Reports, Breaks, run, shown}
-use Rattle.arm2_machine.specs.declared.processor.Action.{Action}
-use Rattle.arm2_machine.specs.declared.processor.Action.TheVariants.{Move, Swi, Unknown}
-use Rattle.arm2_machine.specs.declared.processor.TheConstants.{PC_END, SWI_WRITE, SWI_END}
-use Rattle.arm2_machine.specs.Words.{fetched, decoded}
-use Rattle.arm2_machine.specs.Machine.{Machine, loaded, arena_of}
+use Rattle.arm2_cpu.specs.declared.event.CpuEvent.{CpuEvent}
+use Rattle.arm2_cpu.specs.declared.event.CpuEvent.TheVariants as events
+use Rattle.arm2_cpu.specs.declared.regs.Regs.{Regs}
+use Rattle.arm2_cpu.specs.Outcomes.{Stepped}
+use Rattle.arm2_cpu.specs.Step.{cpu_step}
+use Rattle.arm2_machine.specs.declared.calls.TheConstants.{SWI_WRITE, SWI_NEW_LINE, SWI_READ, SWI_END, SWI_CHARACTER}
+use Rattle.arm2_machine.specs.declared.layout.TheConstants.{PAD, RETURN_ENTRY, TRAP_ENTRY}
+use Rattle.arm2_machine.specs.Machine.{Machine, board_space, loaded, arena_of}
+use Rattle.arm2_machine.specs.Reports.{trap_number, report_of}
 
--- the kind of a trap by its number
-abbrev pub trap_of : ℕ → Option Trap
-trap_of n =
-    if n == 1 then Some traps.Data else if n == 2 then Some traps.Fetch else if n == 3 then Some traps.Undefined else if n == 4 then Some traps.Unpredictable else if n == 5 then Some traps.Swi else None
+-- the processor in supervisor mode, at an entry
+abbrev pub entered : Regs → ℕ → Regs
+entered r entry = record r { svc = true; pc = entry }
 
--- a stray's report, where its kind is one
-abbrev pub stray_of : Option Trap → ℕ → ℕ → Option Report
-stray_of None address line = None
-stray_of (Some kind) address line = Some (reports.Stray kind address line)
+-- a register from R0 to R12 takes a value
+abbrev pub with_low : Regs → ℕ → ℕ → Regs
+with_low r n value = record r { low = slice_set r.low n value }
 
--- The report that R0 to R3 stand for, if they do: R0 says which it is, R1 has the error or the trap's kind, the low
--- 16 bits of R2 the line, and R3 the address.
-abbrev pub report_of : List ℕ → Option Report
-report_of r =
-    if slice_index r 0 == 0 then Some reports.Done
-    else if slice_index r 0 == 1 then Some (reports.Failed (cast_signed w32 (slice_index r 1)) (slice_index r 2 % 65536))
-    else if slice_index r 0 == 2 then stray_of (trap_of (slice_index r 1)) (slice_index r 3) (slice_index r 2 % 65536)
-    else if slice_index r 0 == 3 then Some (reports.InputEnded (slice_index r 2 % 65536))
-    else None
+-- A trap: user mode goes to the supervisor, with the kind in R0 and the address in R1. The supervisor's own trap breaks the
+-- run.
+abbrev pub trapped : Machine → Trap → ℕ → Turn Machine End
+trapped m kind address =
+    if m.regs.svc then Stops m [] (Breaks kind address)
+    else Goes (record m { regs = entered (with_low (with_low m.regs 0 (trap_number kind)) 1 address) TRAP_ENTRY }) []
 
--- the machine behind its instruction
-abbrev pub at_next : Machine → Machine
-at_next m = record m { pc = (m.pc + 4) % PC_END }
+-- a call that isn't there traps at its instruction
+abbrev pub refused : Machine → ℕ → Turn Machine End
+refused m at = trapped (record m { regs = record m.regs { pc = at } }) traps.Swi at
 
--- the machine breaks at its instruction
-abbrev pub broken : Machine → Trap → Turn Machine End
-broken m kind = Stops m [] (Breaks kind m.pc)
+-- the next byte of the input comes into R0, or all ones where there is none
+abbrev pub with_input : Machine → List ℕ → Machine
+with_input m [] = record m { regs = with_low m.regs 0 (2 ^ 32 - 1) }
+with_input m (byte ∷ rest) = record m { regs = with_low m.regs 0 byte; input = rest }
 
--- ends with a report, or breaks where there is none
-abbrev pub reported : Machine → Option Report → Turn Machine End
-reported m None = broken m traps.Swi
-reported m (Some report) = Stops m [] (Reports report)
+-- ends with a report, or is no call where there is none
+abbrev pub reported : Machine → ℕ → Option Report → Turn Machine End
+reported m at None = refused m at
+reported m at (Some report) = Stops m [] (Reports report)
 
--- what an instruction does
-abbrev pub acted : Machine → Action → Turn Machine End
-acted m (Move rd value) = Goes (record (at_next m) { registers = slice_set m.registers rd value }) []
-acted m (Swi number) =
-    if number == SWI_WRITE then Goes (at_next m) ((slice_index m.registers 0 % 256) ∷ [])
-    else if number == SWI_END then reported m (report_of m.registers)
-    else broken m traps.Undefined
-acted m Unknown = broken m traps.Undefined
+-- the numbers of the calls that write their low byte
+abbrev pub is_character : ℕ → Bool
+is_character number = nat_le SWI_CHARACTER number && nat_lt number (SWI_CHARACTER + 256)
 
--- what the word at the next instruction's place does, if there is one
-abbrev pub with_word : Machine → Option ℕ → Turn Machine End
-with_word m None = broken m traps.Fetch
-with_word m (Some word) = acted m (decoded word)
+-- a call that user mode alone has
+abbrev pub called_by_user : Machine → ℕ → ℕ → Turn Machine End
+called_by_user m at number = if is_character number then Goes m ((number % 256) ∷ []) else refused m at
 
--- one step of the board is one instruction
-abbrev pub board_step : Machine → Turn Machine End
-board_step m = with_word m (fetched m.ram m.pc)
+-- What a call does, by its number and the mode; the PC is behind its instruction, which stands at the address.
+abbrev pub called : Machine → ℕ → ℕ → Turn Machine End
+called m at number =
+    if number == SWI_WRITE then Goes m ((slice_index m.regs.low 0 % 256) ∷ [])
+    else if number == SWI_NEW_LINE then Goes m (10 ∷ 13 ∷ [])
+    else if not m.regs.svc then called_by_user m at number
+    else if number == SWI_READ then Goes (with_input m m.input) []
+    else if number == SWI_END then reported m at (report_of m.regs.low)
+    else refused m at
+
+-- what an instruction's event comes to
+abbrev pub came : Machine → ℕ → CpuEvent → Turn Machine End
+came m at events.Ran = Goes m []
+came m at (events.Swi number) = called m at number
+came m at (events.Trap kind address) = trapped m kind address
+
+-- the machine with what an instruction left
+abbrev pub with_step : Machine → Stepped → Machine
+with_step m s = record m { regs = s.regs; ram = s.bytes }
+
+-- one instruction of the processor
+abbrev pub instructed : Machine → Stepped → Turn Machine End
+instructed m s = came (with_step m s) m.regs.pc s.event
+
+-- user mode has come to the pad
+abbrev pub is_at_pad : Regs → Bool
+is_at_pad r = not r.svc && r.pc == PAD
+
+-- One step of the board: user mode at the pad goes back to the supervisor; else one instruction is made.
+unfoldable pub board_step : Machine → Turn Machine End
+board_step m =
+    if is_at_pad m.regs then Goes (record m { regs = entered m.regs RETURN_ENTRY }) []
+    else instructed m (cpu_step board_space m.regs m.ram)
 
 -- what the board shows after at most so many instructions of an image
 abbrev pub board_run : List ℕ → List ℕ → ℕ → Outcome

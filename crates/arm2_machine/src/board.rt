@@ -1,45 +1,59 @@
-ghost use Rattle.std.specs.Prelude.{◌≡◌, ◌+◌, ◌-◌, ◌^◌, ◌≤◌, min, [], List, ℕ, false, true, length, IfOk, OnOk, OnErr};
+ghost use Rattle.std.specs.Prelude.{◌≡◌, ◌+◌, ◌-◌, ◌^◌, ◌%◌, ◌<◌, ◌≤◌, min, [], List, ℕ, false, true, length, IfOk, OnOk, OnErr};
 ghost use Rattle.bv_io.specs.Outcome.{IsPrefix};
 ghost use Rattle.bv_io.specs.Runs.{run, steps_made, written_by};
 ghost use Rattle.bv_io.specs.Shelf.{Rose, counted};
 ghost use Rattle.bv_io.specs.Sink.{with_bytes};
-ghost use Rattle.arm2_machine.specs.Actions.{IsWithin};
 ghost use Rattle.arm2_machine.specs.Machine.{loaded, arena_of};
-ghost use Rattle.arm2_machine.specs.Step.{acted, at_next, board_step};
+ghost use Rattle.arm2_machine.specs.Step.{board_step, called, called_by_user, entered, refused, reported, trapped, with_input};
 
-use crate::layout::{IMAGE_START, IMAGE_WORDS};
-use crate::processor::{self, Action, Happened, PC_END, SWI_END, SWI_WRITE};
-use crate::ram;
-use bv_io::{ARENA_END, ARENA_START, NoMemory, RunEnd, Sink, SinkFault, Trap};
+use crate::calls::{self, SWI_CHARACTER, SWI_END, SWI_NEW_LINE, SWI_READ, SWI_WRITE};
+use crate::layout::{IMAGE_START, IMAGE_WORDS, PAD, RETURN_ENTRY, TRAP_ENTRY};
+use crate::output::write;
+use crate::ram::BoardRam;
+use crate::step::{Happened, Output};
+use arm2_cpu::{CpuEvent, PC_END, Regs, step_cpu};
+use bv_io::{NoMemory, Report, RunEnd, Sink, SinkFault, Trap};
 use std::alloc::Global;
 use std::marker::Model;
 
-/// The board: the processor's registers R0 to R12 and its PC, the RAM, and the input that is left. It counts the
-/// instructions that it has made, up to the greatest `u64`, and is closed once its run has come to an end.
+/// The board: the processor's registers, the RAM, and the input that is left. It counts the instructions that it has
+/// made, up to the greatest `u64`, and is closed once its run has come to an end.
 #[derive(Drop)]
 pub struct Board {
-    registers: [u32; 13],
-    pc: u32,
-    ram: Vec<u8>,
+    regs: Regs,
+    ram: BoardRam,
     input: Vec<u8>,
+    /// How many bytes of the input were taken.
+    taken: usize,
     steps: u64,
     closed: bool,
 }
 
 impl Model for Board {
-    ghost use Rattle.std.specs.Prelude.{◌≡◌, ◌<◌, length};
-    ghost use Rattle.arm2_machine.specs.declared.layout.TheConstants.{RAM_END};
-    ghost use Rattle.arm2_machine.specs.declared.processor.TheConstants.{PC_END};
+    ghost use Rattle.std.specs.Prelude.{◌≤◌, length, drop};
+    ghost use Rattle.arm2_cpu.specs.Registers.{IsValidRegs};
     ghost use Rattle.arm2_machine.specs.Board.{BoardState, board_code};
 
     ghost Value = { BoardState };
 
     ghost coded = { board_code };
 
-    ghost view = { λ b. record { machine = record { registers = b.registers; pc = b.pc; ram = b.ram.items; input = b.input.items }; steps = b.steps; closed = b.closed } };
+    ghost view = { λ b. record { machine = record { regs = b.regs; ram = b.ram; input = drop b.taken b.input.items }; steps = b.steps; closed = b.closed } };
 
-    ghost invariant = { λ b. (b.pc < PC_END) × (length b.ram.items ≡ RAM_END) };
+    ghost invariant = { λ b. IsValidRegs b.regs × (b.taken ≤ length b.input.items) };
 }
+
+/// The registers at the start of a run: all 0, no flag set, in supervisor mode at the image's first word.
+const FIRST_REGS: Regs = Regs {
+    low: [0; 13],
+    user13: 0,
+    user14: 0,
+    svc13: 0,
+    svc14: 0,
+    pc: IMAGE_START,
+    psr: 0,
+    svc: true,
+};
 
 impl Board {
     ghost use Rattle.arm2_machine.specs.Board.{turn_of, progress_of, is_end};
@@ -49,23 +63,22 @@ impl Board {
         requires { length words.now ≤ IMAGE_WORDS }
         ensures { IfOk result (λ board. board ≡ record { machine = loaded words.now input.items; steps = 0; closed = false }) }
     {
-        let ram = ram::load(alloc, words)?;
+        let ram = BoardRam::load(alloc, words)?;
         Ok(Board {
-            registers: [0; 13],
-            pc: IMAGE_START,
+            regs: FIRST_REGS,
             ram,
             input,
+            taken: 0,
             steps: 0,
             closed: false,
         })
     }
 
-    #[tactic(auto, unfolding(crate::specs::Machine::arena_of))]
     /// The arena's bytes, from `ARENA_START` to `ARENA_END`.
     pub fn arena(&self) -> &[u8]
         ensures { result.now ≡ arena_of self.now.machine.ram }
     {
-        &self.ram[ARENA_START as usize..ARENA_END as usize]
+        self.ram.arena()
     }
 
     /// Whether the board's run has come to an end.
@@ -82,45 +95,113 @@ impl Board {
         self.steps
     }
 
-    fn advance(&mut self)
-        ensures { self.new ≡ record self.old { machine = at_next self.old.machine } }
-    {
-        self.pc = (self.pc + 4) % PC_END;
-    }
-
-    /// Carries out an instruction.
-    fn act(&mut self, action: Action) -> Happened
-        requires { IsWithin action }
-        ensures value { acted self.old.machine action ≡ turn_of result self.new.machine }
+    /// Goes to the supervisor, at an entry.
+    fn enter(&mut self, entry: u32)
+        requires aligned { entry % 4 ≡ 0 }
+        requires within { entry < PC_END }
+        ensures value { self.new.machine ≡ record self.old.machine { regs = entered self.old.machine.regs entry } }
         ensures closed { self.new.closed ≡ self.old.closed }
         ensures steps { self.new.steps ≡ self.old.steps }
     {
-        let address = self.pc;
-        match action {
-            Action::Move { register, value } => {
-                self.registers[register] = value;
-                self.advance();
-                Happened::Ran
+        self.regs.svc = true;
+        self.regs.pc = entry;
+    }
+
+    /// Takes a trap: user mode goes to the supervisor, and the supervisor breaks the run.
+    fn trap(&mut self, kind: Trap, address: u32) -> Happened
+        ensures value { trapped self.old.machine kind address ≡ turn_of result self.new.machine }
+        ensures closed { self.new.closed ≡ self.old.closed }
+        ensures steps { self.new.steps ≡ self.old.steps }
+    {
+        if self.regs.svc {
+            return Happened::Broke { kind, address };
+        }
+        self.regs.low[0] = calls::trap_number(kind);
+        self.regs.low[1] = address;
+        self.enter(TRAP_ENTRY);
+        Happened::Went(Output::Nothing)
+    }
+
+    /// Takes the trap of a call that isn't there, whose instruction stands at the address.
+    fn refuse(&mut self, at: u32) -> Happened
+        requires aligned { at % 4 ≡ 0 }
+        requires within { at < PC_END }
+        ensures value { refused self.old.machine at ≡ turn_of result self.new.machine }
+        ensures closed { self.new.closed ≡ self.old.closed }
+        ensures steps { self.new.steps ≡ self.old.steps }
+    {
+        self.regs.pc = at;
+        self.trap(Trap::Swi, at)
+    }
+
+    /// Takes the next byte of the input into R0, or all ones where there is none.
+    fn read_input(&mut self)
+        ensures value { self.new.machine ≡ with_input self.old.machine self.old.machine.input }
+        ensures closed { self.new.closed ≡ self.old.closed }
+        ensures steps { self.new.steps ≡ self.old.steps }
+    {
+        match self.input.get(self.taken) {
+            Some(byte) => {
+                self.regs.low[0] = u32::from(*byte);
+                self.taken += 1;
             }
-            Action::Swi { number: SWI_WRITE } => {
-                let byte = (self.registers[0] % 0x100) as u8;
-                self.advance();
-                Happened::Wrote(byte)
-            }
-            Action::Swi { number: SWI_END } => match processor::report(&self.registers) {
-                Some(report) => Happened::Over(report),
-                None => Happened::Broke {
-                    kind: Trap::Swi,
-                    address,
-                },
-            },
-            Action::Swi { .. } | Action::Unknown => Happened::Broke {
-                kind: Trap::Undefined,
-                address,
-            },
+            None => self.regs.low[0] = u32::MAX,
         }
     }
 
+    fn end(&mut self, at: u32, report: Option<Report>) -> Happened
+        requires aligned { at % 4 ≡ 0 }
+        requires within { at < PC_END }
+        ensures value { reported self.old.machine at report ≡ turn_of result self.new.machine }
+        ensures closed { self.new.closed ≡ self.old.closed }
+        ensures steps { self.new.steps ≡ self.old.steps }
+    {
+        match report {
+            Some(report) => Happened::Over(report),
+            None => self.refuse(at),
+        }
+    }
+
+    /// Carries out a call that user mode alone has.
+    fn call_of_user(&mut self, at: u32, number: u32) -> Happened
+        requires aligned { at % 4 ≡ 0 }
+        requires within { at < PC_END }
+        ensures value { called_by_user self.old.machine at number ≡ turn_of result self.new.machine }
+        ensures closed { self.new.closed ≡ self.old.closed }
+        ensures steps { self.new.steps ≡ self.old.steps }
+    {
+        if (SWI_CHARACTER..SWI_CHARACTER + 256).contains(&number) {
+            Happened::Went(Output::Byte((number % 0x100) as u8))
+        } else {
+            self.refuse(at)
+        }
+    }
+
+    /// Carries out the call with a number, whose instruction stands at the address.
+    fn call(&mut self, at: u32, number: u32) -> Happened
+        requires aligned { at % 4 ≡ 0 }
+        requires within { at < PC_END }
+        ensures value { called self.old.machine at number ≡ turn_of result self.new.machine }
+        ensures closed { self.new.closed ≡ self.old.closed }
+        ensures steps { self.new.steps ≡ self.old.steps }
+    {
+        match number {
+            SWI_WRITE => Happened::Went(Output::Byte((self.regs.low[0] % 0x100) as u8)),
+            SWI_NEW_LINE => Happened::Went(Output::NewLine),
+            _ if !self.regs.svc => self.call_of_user(at, number),
+            SWI_READ => {
+                self.read_input();
+                Happened::Went(Output::Nothing)
+            }
+            SWI_END => {
+                let report = calls::report(&self.regs.low);
+                self.end(at, report)
+            }
+            _ => self.refuse(at),
+        }
+    }
+
+    #[tactic(auto, unfolding(crate::specs::Step::board_step))]
     /// Makes one instruction, and counts it.
     fn step(&mut self) -> Happened
         ensures value { board_step self.old.machine ≡ turn_of result self.new.machine }
@@ -128,13 +209,15 @@ impl Board {
         ensures steps { self.new.steps ≡ counted self.old.steps }
     {
         self.steps = self.steps.saturating_add(1);
-        let address = self.pc;
-        match ram::fetch(self.ram.as_slice(), address) {
-            Some(word) => self.act(processor::decode(word)),
-            None => Happened::Broke {
-                kind: Trap::Fetch,
-                address,
-            },
+        if !self.regs.svc && self.regs.pc == PAD {
+            self.enter(RETURN_ENTRY);
+            return Happened::Went(Output::Nothing);
+        }
+        let at = self.regs.pc;
+        match step_cpu(&mut self.regs, &mut self.ram) {
+            CpuEvent::Ran => Happened::Went(Output::Nothing),
+            CpuEvent::Swi(number) => self.call(at, number),
+            CpuEvent::Trap { kind, address } => self.trap(kind, address),
         }
     }
 
@@ -161,9 +244,8 @@ impl Board {
         let _ = &self.steps;
         'steps: for _ in 0..bound {
             match self.step() {
-                Happened::Ran => (),
-                Happened::Wrote(byte) => {
-                    if let Err(fault) = out.write(&[byte]) {
+                Happened::Went(output) => {
+                    if let Err(fault) = write(out, output) {
                         self.closed = true;
                         return Err(fault);
                     }

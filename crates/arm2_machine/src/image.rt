@@ -2,7 +2,7 @@ ghost use Rattle.std.specs.Prelude.{◌≡◌, ◌≤◌, ◌<◌, ◌↔◌, Is
 ghost use Rattle.arm2_machine.specs.Image.{ImageOf, HasOneImage, ExplainsImage, MagicEnds, IsWhole};
 
 use crate::layout::IMAGE_WORDS;
-use crate::ram::{push_word, push_words};
+use crate::words::{push_word, push_words};
 use bv_io::NoMemory;
 use byteorder::{ByteOrder, LittleEndian};
 use std::alloc::{AllocError, AllocFailed, Global};

@@ -2,11 +2,14 @@
 #![tactic(auto)]
 
 mod board;
+mod calls;
 mod image;
 mod layout;
-mod processor;
+mod output;
 mod ram;
+mod step;
+mod words;
 
 pub use board::Board;
 pub use image::{ImageError, read_image, write_image};
-pub use layout::{IMAGE_START, IMAGE_WORDS, RAM_END};
+pub use layout::{IMAGE_START, IMAGE_WORDS, PAD, RAM_END, RETURN_ENTRY, TRAP_ENTRY};

@@ -1,60 +1,114 @@
-ghost use Rattle.std.specs.Prelude.{◌≡◌, ◌+◌, ◌-◌, ◌*◌, ◌≤◌, ◌++◌, length, flat_map, OnOk, IfOk};
-ghost use Rattle.bv_io.specs.Bytes.{zeros};
-ghost use Rattle.arm2_machine.specs.Words.{word_bytes, fetched};
-ghost use Rattle.arm2_machine.specs.Machine.{loaded_ram};
+ghost use Rattle.std.specs.Prelude.{◌≡◌, ◌≤◌, length, IfOk};
+ghost use Rattle.arm2_machine.specs.Machine.{arena_of, board_space, loaded_ram};
 
 use crate::layout::{IMAGE_START, IMAGE_WORDS, RAM_END};
-use byteorder::{ByteOrder, LittleEndian};
-use std::alloc::{AllocError, Global};
+use crate::words::push_words;
+use arm2_cpu::Memory;
+use bv_io::{ARENA_END, ARENA_START, NoMemory};
+use bv_ram::Ram;
+use std::alloc::Global;
+use std::marker::Model;
 
-/// The word at an address, where its four bytes lie within the memory.
-pub fn fetch(ram: &[u8], at: u32) -> Option<u32>
-    ensures { result ≡ fetched ram.now at }
+/// The board's RAM, from address 0 on. Supervisor mode may use all of it, user mode the arena alone.
+#[derive(Drop)]
+pub struct BoardRam {
+    ram: Ram,
+}
+
+impl Model for BoardRam {
+    ghost use Rattle.std.specs.Prelude.{◌≡◌, ℕ, List, length};
+    ghost use Rattle.arm2_machine.specs.declared.layout.TheConstants.{RAM_END};
+
+    ghost Value = { List ℕ };
+
+    ghost view = { λ r. r.ram };
+
+    ghost invariant = { λ r. length r.ram ≡ RAM_END };
+}
+
+/// Whether a mode may use an address.
+fn allows(user: bool, at: u32) -> bool
+    ensures { result ≡ board_space.allows user at }
 {
-    let at = at as usize;
-    if at + 3 >= ram.len() {
-        return None;
+    if user {
+        (ARENA_START..ARENA_END).contains(&at)
+    } else {
+        at < RAM_END
     }
-    Some(LittleEndian::read_u32(&ram[at..]))
 }
 
-/// Adds a word's four bytes, the lowest first.
-pub fn push_word(bytes: &mut Vec<u8>, word: u32) -> Result<(), AllocError>
-    ensures { OnOk result (bytes.new.items ≡ bytes.old.items ++ word_bytes word) }
-{
-    let mut word_bytes = [0u8; 4];
-    LittleEndian::write_u32(&mut word_bytes, word);
-    bytes.extend_from_slice(&word_bytes)
-}
-
-/// Adds the bytes of words, one word after the other.
-pub fn push_words(bytes: &mut Vec<u8>, words: &[u32]) -> Result<(), AllocError>
-    ensures { OnOk result (bytes.new.items ≡ bytes.old.items ++ flat_map word_bytes words.now) }
-{
-    for word in words {
-        push_word(bytes, *word)?;
+impl BoardRam {
+    /// The RAM with an image's words in their place, and 0 elsewhere.
+    #[tactic(auto, using(crate::proofs::Memory::zeros_with_words, crate::proofs::Memory::loaded_ram_length, crate::proofs::Memory::bytes_of_words))]
+    pub fn load(alloc: Global, words: &[u32]) -> Result<BoardRam, NoMemory>
+        requires { length words.now ≤ IMAGE_WORDS }
+        ensures { IfOk result (λ ram. ram ≡ loaded_ram words.now) }
+    {
+        let mut bytes = Vec::new(alloc);
+        push_words(&mut bytes, words)?;
+        let mut ram = Ram::new(alloc, RAM_END)?;
+        ram.copy_in(IMAGE_START, bytes.as_slice());
+        Ok(BoardRam { ram })
     }
-    Ok(())
+
+    /// The bytes of the arena.
+    #[tactic(auto, unfolding(crate::specs::Machine::arena_of))]
+    pub fn arena(&self) -> &[u8]
+        ensures { result.now ≡ arena_of self.now }
+    {
+        self.ram.part(ARENA_START, ARENA_END)
+    }
 }
 
-#[tactic(auto, unfolding(bv_io::specs::Bytes::zeros))]
-fn push_zeros(bytes: &mut Vec<u8>, count: usize) -> Result<(), AllocError>
-    requires { count ≤ RAM_END }
-    ensures { OnOk result (bytes.new.items ≡ bytes.old.items ++ zeros count) }
-{
-    bytes.resize(bytes.len() + count, 0)
-}
+impl Memory for BoardRam {
+    ghost use Rattle.arm2_machine.specs.Machine.{board_space, board_space-lawful};
 
-#[tactic(auto, unfolding(crate::specs::Machine::loaded_ram))]
-/// The memory with an image's words in their place.
-pub fn load(alloc: Global, words: &[u32]) -> Result<Vec<u8>, AllocError>
-    requires { length words.now ≤ IMAGE_WORDS }
-    ensures { IfOk result (λ ram. ram.items ≡ loaded_ram words.now) }
-{
-    let mut ram = Vec::with_capacity(alloc, RAM_END as usize)?;
-    push_zeros(&mut ram, IMAGE_START as usize)?;
-    push_words(&mut ram, words)?;
-    let rest = (RAM_END - IMAGE_START) as usize - 4 * words.len();
-    push_zeros(&mut ram, rest)?;
-    Ok(ram)
+    ghost space = { board_space };
+
+    ghost bytes = { λ ram. ram };
+
+    #[tactic(auto, using(crate::proofs::Memory::same_word), unfolding(arm2_cpu::specs::Memory::read_word))]
+    fn word(&self, user: bool, at: u32) -> Option<u32> {
+        // The proof learns here how long the RAM is.
+        let ram = &self.ram;
+        if allows(user, at) {
+            Some(ram.word(at))
+        } else {
+            None
+        }
+    }
+
+    #[tactic(auto, unfolding(arm2_cpu::specs::Memory::read_byte, arm2_cpu::specs::Memory::byte_at))]
+    fn byte(&self, user: bool, at: u32) -> Option<u8> {
+        let ram = &self.ram;
+        if allows(user, at) {
+            Some(ram.byte(at))
+        } else {
+            None
+        }
+    }
+
+    #[tactic(auto, using(crate::proofs::Memory::same_put), unfolding(arm2_cpu::specs::Memory::wrote_word))]
+    fn set_word(&mut self, user: bool, at: u32, v: u32) -> bool {
+        let allowed = allows(user, at);
+        if allowed {
+            self.ram.set_word(at, v);
+        }
+        allowed
+    }
+
+    #[tactic(auto, using(arm2_cpu::proofs::MemoryLaws::with_byte_by_set), unfolding(arm2_cpu::specs::Memory::wrote_byte))]
+    fn set_byte(&mut self, user: bool, at: u32, v: u8) -> bool {
+        let allowed = allows(user, at);
+        if allowed {
+            self.ram.set_byte(at, v);
+        }
+        allowed
+    }
+
+    fn fetch(&self, user: bool, at: u32) -> Option<u32> {
+        self.word(user, at)
+    }
+
+    ghost lawful = { board_space-lawful };
 }

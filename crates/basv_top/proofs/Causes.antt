@@ -12,12 +12,11 @@ use Rattle.basv_top.specs.declared.refusal.Which.{Which}
 use Rattle.basv_top.specs.declared.refusal.Which.TheVariants as limits
 use Rattle.basv_top.specs.declared.refusal.TheConstants.{FILE_BYTES}
 use Rattle.basv_top.specs.declared.status.Status.TheVariants as statuses
-use Rattle.basv_top.specs.Command.{Command, Listing, Compile}
 use Rattle.basv_top.specs.Correct.{CompilesTo}
 use Rattle.basv_top.specs.Ending as endings
 use Rattle.basv_top.specs.Ending.{Ending, status_of, refusal_status}
 use Rattle.basv_top.specs.Seen.{SeenShelf, SeenSink, Silent}
-use Rattle.basv_top.specs.Top.{GivesLines, Unlistable, GivesRefused, CannotRead, ExplainsCompile, ExplainsList, Explains, MayWrite}
+use Rattle.basv_top.specs.Top.{GivesLines, Unlistable, GivesRefused, CannotRead, ExplainsCompile, ExplainsList, MayWrite}
 use Rattle.basv_top.specs.Grammar.{Parses, ParsesAll, Accepted}
 use Rattle.basv_top.specs.Refused.{FirstOutside, IsOutside, Refused, Explained}
 
@@ -109,7 +108,7 @@ refuses_refused bytes (Err (refusals.Outside line)) r compiled explained refused
 refuses_refused bytes (Err (refusals.Limit which count)) r compiled explained refused = inl (refused_once bytes (refusals.Limit which count) r explained refused)
 
 -- what is told of a name is the content that it holds
-told_is : (told : Option (Option (List ℕ))) (bytes given : List ℕ) → told ≡ Some (Some bytes) → Tells told (Some given) → given ≡ bytes
+pub told_is : (told : Option (Option (List ℕ))) (bytes given : List ℕ) → told ≡ Some (Some bytes) → Tells told (Some given) → given ≡ bytes
 told_is told bytes given is tells = let e : Some bytes ≡ Some given = subst (λ t. Tells t (Some given)) is tells in sym (ap (λ o. unwrap_or o bytes) e)
 
 told_more : (told : Option (Option (List ℕ))) (bytes : List ℕ) (max : ℕ) → told ≡ Some (Some bytes) → TellsMore told max → max < length bytes
@@ -141,7 +140,7 @@ listable bytes lines refusals.NoMemory short read why = why
 
 module _ (before after : SeenShelf) where
   -- a name that is held and that the shelf did not fail to give can be read
-  can_read : (file bytes : List ℕ) → before.content file ≡ Some (Some bytes) → (Rose before.take_faults after.take_faults → ⊥) → CannotRead before after file → ⊥
+  pub can_read : (file bytes : List ℕ) → before.content file ≡ Some (Some bytes) → (Rose before.take_faults after.take_faults → ⊥) → CannotRead before after file → ⊥
   can_read file bytes held calm (inl missing) = told_missing bytes (sym held ∙ missing)
   can_read file bytes held calm (inr rose) = calm rose
 
@@ -156,6 +155,8 @@ module _ (before after : SeenShelf) where
       ]
   accepted_is_done file image bytes p (endings.ReadFault name) e held accepted calm_take calm_put = absurd (can_read file bytes held calm_take e.1)
   accepted_is_done file image bytes p endings.WriteFault e held accepted calm_take calm_put = absurd (calm_put e.4)
+  accepted_is_done file image bytes p (endings.NotImage at) e held accepted calm_take calm_put = absurd e
+  accepted_is_done file image bytes p (endings.Ran end bound) e held accepted calm_take calm_put = absurd e
 
   -- a refused file gives the status of its reason, where the shelf did not fail to give it
   pub refused_is_told : (file image bytes : List ℕ) (r : Refusal) (ending : Ending) → ExplainsCompile before after file image ending → before.content file ≡ Some (Some bytes) → Refused bytes r → (Rose before.take_faults after.take_faults → ⊥) → (status_of ending ≡ refusal_status r) ⊎ (status_of ending ≡ statuses.NoMemory)
@@ -170,6 +171,8 @@ module _ (before after : SeenShelf) where
   refused_is_told file image bytes r (endings.ReadFault name) e held refused calm = absurd (can_read file bytes held calm e.1)
   refused_is_told file image bytes r endings.WriteFault e held refused calm =
       absurd (accepted≢refused bytes e.1 r (subst (λ b. Accepted b e.1) (told_is _ bytes e.0 held e.2) e.3) refused)
+  refused_is_told file image bytes r (endings.NotImage at) e held refused calm = absurd e
+  refused_is_told file image bytes r (endings.Ran end bound) e held refused calm = absurd e
 
   -- lines that were given are those of the content that is told
   given_lines : (file bytes : List ℕ) (lines : List Line) → before.content file ≡ Some (Some bytes) → GivesLines before file lines → (length bytes ≤ FILE_BYTES) × Lines bytes lines
@@ -189,6 +192,8 @@ module _ (before after : SeenShelf) where
         ]
     lines_are_listed file bytes lines (endings.ReadFault name) e held short read calm_take calm_out = absurd (can_read file bytes held calm_take e.1)
     lines_are_listed file bytes lines endings.WriteFault e held short read calm_take calm_out = absurd (calm_out e.3)
+    lines_are_listed file bytes lines (endings.NotImage at) e held short read calm_take calm_out = absurd e
+    lines_are_listed file bytes lines (endings.Ran end bound) e held short read calm_take calm_out = absurd e
 
     -- a file that can't be listed gives the status of its reason, where the shelf did not fail to give it
     pub unlistable_is_told : (file bytes : List ℕ) (r : Refusal) (ending : Ending) → ExplainsList before after out_before out_after file ending → before.content file ≡ Some (Some bytes) → Unlistable bytes r → (Rose before.take_faults after.take_faults → ⊥) → (status_of ending ≡ refusal_status r) ⊎ (status_of ending ≡ statuses.NoMemory)
@@ -203,13 +208,15 @@ module _ (before after : SeenShelf) where
     unlistable_is_told file bytes r (endings.ReadFault name) e held unlistable calm = absurd (can_read file bytes held calm e.1)
     unlistable_is_told file bytes r endings.WriteFault e held unlistable calm =
         absurd (let given = given_lines file bytes e.0 held e.1 in listable bytes e.0 r given.0 given.1 unlistable)
+    unlistable_is_told file bytes r (endings.NotImage at) e held unlistable calm = absurd e
+    unlistable_is_told file bytes r (endings.Ran end bound) e held unlistable calm = absurd e
 
-    -- nothing is written but by a list that comes to write
-    pub silent_unless_listed : (command : Option Command) (ending : Ending) → Explains before after out_before out_after command ending → ((file : List ℕ) → command ≡ Some (Listing file) → MayWrite (status_of ending) → ⊥) → Silent out_before out_after
-    silent_unless_listed None ending e none = e.1
-    silent_unless_listed (Some (Compile file image)) ending e none = e.1
-    silent_unless_listed (Some (Listing file)) endings.Done e none = absurd (none file refl (inl refl))
-    silent_unless_listed (Some (Listing file)) endings.Usage e none = absurd e
-    silent_unless_listed (Some (Listing file)) (endings.Refused reason) e none = e.1
-    silent_unless_listed (Some (Listing file)) (endings.ReadFault name) e none = e.2
-    silent_unless_listed (Some (Listing file)) endings.WriteFault e none = absurd (none file refl (inr refl))
+    -- nothing is written by a list that doesn't come to write
+    pub silent_unless_listed : (file : List ℕ) (ending : Ending) → ExplainsList before after out_before out_after file ending → (MayWrite (status_of ending) → ⊥) → Silent out_before out_after
+    silent_unless_listed file endings.Done e none = absurd (none (inl refl))
+    silent_unless_listed file endings.Usage e none = absurd e
+    silent_unless_listed file (endings.Refused reason) e none = e.1
+    silent_unless_listed file (endings.ReadFault name) e none = e.2
+    silent_unless_listed file endings.WriteFault e none = absurd (none (inr refl))
+    silent_unless_listed file (endings.NotImage at) e none = absurd e
+    silent_unless_listed file (endings.Ran end bound) e none = absurd e

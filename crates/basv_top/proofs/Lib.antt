@@ -8,3 +8,4 @@ pub mod Causes
 pub mod Verdicts
 pub mod Written
 pub mod Endings
+pub mod Runs

@@ -1,5 +1,15 @@
 -- How the program ends, with which status, and what it then says on the error output. This project's own.
-use Rattle.std.specs.Prelude.{ℕ, ◌+◌, List, [], ◌∷◌, ◌++◌, Result, Ok, Err, codes, decimal}
+use Rattle.std.specs.Prelude.{ℕ, ◌+◌, ◌/◌, ◌%◌, ◌^◌, true, List, [], ◌∷◌, ◌++◌, map, Result, Ok, Err, codes, decimal}
+use Rattle.std.specs.Fmt.{signed_decimal, digit_glyph}
+use Rattle.arm2_machine.specs.declared.image.ImageError.{ImageError}
+use Rattle.arm2_machine.specs.declared.image.ImageError.TheVariants as image_errors
+use Rattle.arm2_machine.specs.declared.layout.TheConstants.{IMAGE_WORDS}
+use Rattle.bv_io.specs.declared.report.Report.{Report}
+use Rattle.bv_io.specs.declared.report.Report.TheVariants as reports
+use Rattle.bv_io.specs.declared.report.RunEnd.{RunEnd}
+use Rattle.bv_io.specs.declared.report.RunEnd.TheVariants as ends
+use Rattle.bv_io.specs.declared.report.Trap.{Trap}
+use Rattle.bv_io.specs.declared.report.Trap.TheVariants as traps
 use Rattle.bv_io.specs.declared.shelf.TakeError.{TakeError}
 use Rattle.bv_io.specs.declared.shelf.TakeError.TheVariants as take_errors
 use Rattle.bv_io.specs.declared.shelf.PutError.{PutError}
@@ -10,19 +20,20 @@ use Rattle.basv_top.specs.declared.refusal.Refusal.{Refusal}
 use Rattle.basv_top.specs.declared.refusal.Refusal.TheVariants as refusals
 use Rattle.basv_top.specs.declared.refusal.Which.{Which}
 use Rattle.basv_top.specs.declared.refusal.Which.TheVariants as limits
-use Rattle.basv_top.specs.declared.refusal.TheConstants.{FILE_BYTES}
 use Rattle.basv_top.specs.declared.report.Message.{Message}
 use Rattle.basv_top.specs.declared.status.Status.{Status}
 use Rattle.basv_top.specs.declared.status.Status.TheVariants as statuses
 
--- The command was done, the words are no command, the file is refused for a reason, the name could not be taken, or
--- something could not be written.
+-- The command was done, the words are no command, the file is refused for a reason, the name could not be taken,
+-- something could not be written, the file is no image, or the image ran until it ended so, or reached its bound.
 pub data Ending : Type 0 where
   Done : Ending
   Usage : Ending
   Refused : (reason : Refusal) → Ending
   ReadFault : (name : List ℕ) → Ending
   WriteFault : Ending
+  NotImage : (at : ℕ) → Ending
+  Ran : (end : RunEnd) (bound : ℕ) → Ending
 
 -- an ending as the code has it
 abbrev pub told : Told → Ending
@@ -31,6 +42,8 @@ told tells.Usage = Usage
 told (tells.Refused reason) = Refused reason
 told (tells.ReadFault name) = ReadFault name.now
 told tells.WriteFault = WriteFault
+told (tells.NotImage at) = NotImage at
+told (tells.Ran end bound) = Ran end bound
 
 -- the number of a status, as a process ends with it
 abbrev pub status_number : Status → ℕ
@@ -56,6 +69,19 @@ refusal_status (refusals.Outside line) = statuses.Outside
 refusal_status (refusals.Limit which count) = statuses.Limit
 refusal_status refusals.NoMemory = statuses.NoMemory
 
+-- the status of a run by its report
+abbrev pub report_status : Report → Status
+report_status reports.Done = statuses.Done
+report_status (reports.Failed error line) = statuses.Failed
+report_status (reports.Stray kind address line) = statuses.Stray
+report_status (reports.InputEnded line) = statuses.InputEnded
+
+-- the status of a run by its end
+abbrev pub end_status : RunEnd → Status
+end_status (ends.Over report) = report_status report
+end_status ends.Going = statuses.Bound
+end_status (ends.Broken kind address) = statuses.Broken
+
 -- the status of an ending
 abbrev pub status_of : Ending → Status
 status_of Done = statuses.Done
@@ -63,6 +89,8 @@ status_of Usage = statuses.Usage
 status_of (Refused reason) = refusal_status reason
 status_of (ReadFault name) = statuses.ReadFault
 status_of WriteFault = statuses.WriteFault
+status_of (NotImage at) = statuses.NotImage
+status_of (Ran end bound) = end_status end
 
 -- a limit, by its word
 abbrev pub limit_word : Which → List ℕ
@@ -76,7 +104,7 @@ limit_word limits.Image = codes "image"
 
 -- the text of a message
 abbrev pub message_text : Message → List ℕ
-message_text message = message.text.now ++ message.name.now ++ message.link.now ++ message.number.now
+message_text message = message.text.now ++ message.name.now ++ message.link.now ++ message.number.now ++ message.tail.now ++ message.line.now
 
 -- what is said of a refusal
 abbrev pub refusal_text : Refusal → List ℕ
@@ -85,6 +113,35 @@ refusal_text (refusals.Outside line) = codes "outside the profile at line " ++ d
 refusal_text (refusals.Limit which count) = codes "limit " ++ limit_word which ++ codes " at " ++ decimal count
 refusal_text refusals.NoMemory = codes "no memory"
 
+-- a kind of trap, by its word
+abbrev pub trap_word : Trap → List ℕ
+trap_word traps.Data = codes "data"
+trap_word traps.Fetch = codes "fetch"
+trap_word traps.Undefined = codes "undefined"
+trap_word traps.Unpredictable = codes "unpredictable"
+trap_word traps.Swi = codes "swi"
+
+-- the eight hexadecimal digits of an address, the highest first, in upper case
+abbrev pub address_digits : ℕ → List ℕ
+address_digits address = map (λ place. digit_glyph true (address / 16 ^ place % 16)) (7 ∷ 6 ∷ 5 ∷ 4 ∷ 3 ∷ 2 ∷ 1 ∷ 0 ∷ [])
+
+-- what is said of a trap, with its address
+abbrev pub trap_text : Trap → ℕ → List ℕ
+trap_text kind address = trap_word kind ++ codes " at &" ++ address_digits address
+
+-- what is said of a report: nothing where the program came to its end
+abbrev pub report_text : Report → List ℕ
+report_text reports.Done = []
+report_text (reports.Failed error line) = codes "error " ++ signed_decimal error ++ codes " at line " ++ decimal line
+report_text (reports.Stray kind address line) = codes "stray " ++ trap_text kind address ++ codes " from line " ++ decimal line
+report_text (reports.InputEnded line) = codes "input ended at line " ++ decimal line
+
+-- what is said of a run that ended so, under a bound
+abbrev pub end_text : RunEnd → ℕ → List ℕ
+end_text (ends.Over report) bound = report_text report
+end_text ends.Going bound = codes "bound " ++ decimal bound ++ codes " reached"
+end_text (ends.Broken kind address) bound = codes "broken " ++ trap_text kind address
+
 -- what is said of an ending
 abbrev pub text_of : Ending → List ℕ
 text_of Done = []
@@ -92,18 +149,21 @@ text_of Usage = codes "usage: basv list FILE / compile FILE IMAGE / interp FILE 
 text_of (Refused reason) = refusal_text reason
 text_of (ReadFault name) = codes "cannot read " ++ name
 text_of WriteFault = codes "cannot write"
+text_of (NotImage at) = codes "not an image at byte " ++ decimal at
+text_of (Ran end bound) = end_text end bound
 
--- what the error output gets: nothing where the command was done, else one line
+-- what the error output gets: nothing where the command, or the program that ran, was done; else one line
 abbrev pub line_of : Ending → List ℕ
 line_of Done = []
+line_of (Ran (ends.Over reports.Done) bound) = []
 line_of ending = text_of ending ++ 10 ∷ []
 
--- how a command ends whose file could not be taken from a shelf
-abbrev pub take_ending : TakeError → List ℕ → Ending
-take_ending take_errors.Missing name = ReadFault name
-take_ending take_errors.Failed name = ReadFault name
-take_ending take_errors.TooLong name = Refused (refusals.Limit limits.File (FILE_BYTES + 1))
-take_ending take_errors.NoMemory name = Refused refusals.NoMemory
+-- how a command ends whose file could not be taken from a shelf, where one that is too long is refused so
+abbrev pub take_ending : TakeError → List ℕ → Refusal → Ending
+take_ending take_errors.Missing name too_long = ReadFault name
+take_ending take_errors.Failed name too_long = ReadFault name
+take_ending take_errors.TooLong name too_long = Refused too_long
+take_ending take_errors.NoMemory name too_long = Refused refusals.NoMemory
 
 -- how a command ends whose file could not be put on a shelf
 abbrev pub put_ending : PutError → Ending
@@ -114,3 +174,18 @@ put_ending put_errors.NoMemory = Refused refusals.NoMemory
 abbrev pub ended : Result Unit Told → Ending
 ended (Ok _) = Done
 ended (Err ending) = told ending
+
+-- how `run` ends, whose image ran under a bound or was broken off
+abbrev pub ended_run : Result RunEnd Told → ℕ → Ending
+ended_run (Ok end) bound = Ran end bound
+ended_run (Err ending) bound = told ending
+
+-- how an image of too many words is refused: the count stops one past the limit
+abbrev pub too_many_words : Refusal
+too_many_words = refusals.Limit limits.Image (IMAGE_WORDS + 1)
+
+-- how `run` ends whose image could not be read
+abbrev pub image_ending : ImageError → Ending
+image_ending (image_errors.NotImage at) = NotImage at
+image_ending image_errors.TooLong = Refused too_many_words
+image_ending image_errors.NoMemory = Refused refusals.NoMemory

@@ -10,6 +10,8 @@ pub enum Command<'a> {
     List { file: &'a str },
     /// Compile a program's file to an image.
     Compile { file: &'a str, image: &'a str },
+    /// Run an image on the board.
+    Run { image: &'a str },
 }
 
 fn is_name(word: &str) -> bool
@@ -18,11 +20,14 @@ fn is_name(word: &str) -> bool
     word == "-" || !word.starts_with('-')
 }
 
-fn read_list<'a>(name: &str, file: &'a str) -> Option<Command<'a>>
+fn read_list_or_run<'a>(name: &str, file: &'a str) -> Option<Command<'a>>
     ensures { option_map meant result ≡ command_of (name.now ∷ file.now ∷ []) }
 {
     if name == "list" && is_name(file) {
         return Some(Command::List { file });
+    }
+    if name == "run" && is_name(file) {
+        return Some(Command::Run { image: file });
     }
     None
 }
@@ -41,7 +46,7 @@ pub fn read_command(words: &[String]) -> Option<Command<'_>>
     ensures { option_map meant result ≡ command_of (map string_bytes words.now) }
 {
     match words {
-        [name, file] => read_list(name.as_str(), file.as_str()),
+        [name, file] => read_list_or_run(name.as_str(), file.as_str()),
         [name, file, image] => read_compile(name.as_str(), file.as_str(), image.as_str()),
         _ => None,
     }

@@ -1,9 +1,10 @@
 ghost use Rattle.std.specs.Prelude.{◌≡◌};
-ghost use Rattle.basv_top.specs.Ending.{told, ended, status_of, refusal_status, take_ending};
+ghost use Rattle.basv_top.specs.Ending.{told, ended, ended_run, status_of, refusal_status, report_status, end_status, take_ending};
 
-use crate::refusal::{FILE_BYTES, Refusal, Which};
+use crate::refusal::{LONG_IMAGE, Refusal};
 use crate::status::Status;
-use bv_io::{NoMemory, PutError, SinkFault, TakeError};
+use arm2_machine::ImageError;
+use bv_io::{NoMemory, PutError, Report, RunEnd, SinkFault, TakeError};
 use token_file::FileError;
 
 /// How a command ended, with what its line on the error output tells.
@@ -19,6 +20,10 @@ pub enum Ending<'a> {
     ReadFault { name: &'a str },
     /// A file or an output could not be written.
     WriteFault,
+    /// The file is no image. Its bytes before `at` could begin one.
+    NotImage { at: u32 },
+    /// The image was run under a bound of instructions, and its run ended so.
+    Ran { end: RunEnd, bound: u64 },
 }
 
 impl<'a> Ending<'a> {
@@ -32,16 +37,23 @@ impl<'a> Ending<'a> {
         }
     }
 
-    /// The ending of a command that could not take a name.
-    pub fn not_taken(error: TakeError, name: &'a str) -> Ending<'a>
-        ensures { told result ≡ take_ending error name.now }
+    /// The ending of a command whose image ran under a bound, or was refused before.
+    pub fn of_run(outcome: Result<RunEnd, Ending<'a>>, bound: u64) -> Ending<'a>
+        ensures { told result ≡ ended_run outcome.entry bound }
+    {
+        match outcome {
+            Ok(end) => Ending::Ran { end, bound },
+            Err(ending) => ending,
+        }
+    }
+
+    /// The ending of a command that could not take a name, where a content that is too long is refused so.
+    pub fn not_taken(error: TakeError, name: &'a str, too_long: Refusal) -> Ending<'a>
+        ensures { told result ≡ take_ending error name.now too_long }
     {
         match error {
             TakeError::Missing | TakeError::Failed => Ending::ReadFault { name },
-            TakeError::TooLong => Ending::Refused(Refusal::Limit {
-                which: Which::File,
-                count: FILE_BYTES + 1,
-            }),
+            TakeError::TooLong => Ending::Refused(too_long),
             TakeError::NoMemory => Ending::Refused(Refusal::NoMemory),
         }
     }
@@ -55,7 +67,30 @@ impl<'a> Ending<'a> {
             Ending::Refused(refusal) => refusal.status(),
             Ending::ReadFault { .. } => Status::ReadFault,
             Ending::WriteFault => Status::WriteFault,
+            Ending::NotImage { .. } => Status::NotImage,
+            Ending::Ran { end, .. } => end_status(end),
         }
+    }
+}
+
+fn report_status(report: Report) -> Status
+    ensures { result ≡ report_status report }
+{
+    match report {
+        Report::Done => Status::Done,
+        Report::Failed { .. } => Status::Failed,
+        Report::Stray { .. } => Status::Stray,
+        Report::InputEnded { .. } => Status::InputEnded,
+    }
+}
+
+fn end_status(end: RunEnd) -> Status
+    ensures { result ≡ end_status end }
+{
+    match end {
+        RunEnd::Over(report) => report_status(report),
+        RunEnd::Going => Status::Bound,
+        RunEnd::Broken { .. } => Status::Broken,
     }
 }
 
@@ -92,6 +127,21 @@ impl From<FileError> for Ending<'_> {
 
     fn from(error: FileError) -> Self {
         Ending::Refused(Refusal::from(error))
+    }
+}
+
+impl From<ImageError> for Ending<'_> {
+    ghost use Rattle.std.specs.Prelude.{◌≡◌};
+    ghost use Rattle.basv_top.specs.Ending.{image_ending, told};
+
+    ghost from_gives = { λ error ending. told ending ≡ image_ending error };
+
+    fn from(error: ImageError) -> Self {
+        match error {
+            ImageError::NotImage { at } => Ending::NotImage { at },
+            ImageError::TooLong => Ending::Refused(LONG_IMAGE),
+            ImageError::NoMemory => Ending::Refused(Refusal::NoMemory),
+        }
     }
 }
 

@@ -1,6 +1,8 @@
 //! The compiler from tokenised BASIC V to images of the board, and the program `basv` over any shelf and sinks.
 #![tactic(auto)]
 
+#[cfg(test)]
+mod board_tests;
 mod code;
 mod command;
 mod compiler;

@@ -1,10 +1,26 @@
 ghost use Rattle.std.specs.Prelude.{◌≡◌};
 
+use arm2_machine::IMAGE_WORDS;
 use bv_io::NoMemory;
 use std::alloc::{AllocError, AllocFailed};
 
 /// The greatest number of bytes in a program's file.
 pub const FILE_BYTES: u32 = 65536;
+
+/// The greatest number of bytes in an image file: those of its head, and of its words.
+pub const IMAGE_BYTES: u32 = 8 + 4 * IMAGE_WORDS;
+
+/// How a program's file of too many bytes is refused.
+pub const LONG_FILE: Refusal = Refusal::Limit {
+    which: Which::File,
+    count: FILE_BYTES + 1,
+};
+
+/// How an image of too many words is refused.
+pub const LONG_IMAGE: Refusal = Refusal::Limit {
+    which: Which::Image,
+    count: IMAGE_WORDS + 1,
+};
 
 /// What there is a limit on.
 #[derive(Clone, Copy, Debug, PartialEq, Eq)]
@@ -25,7 +41,7 @@ pub enum Which {
     Image,
 }
 
-/// Why a program is refused.
+/// Why a program or an image is refused.
 #[derive(Clone, Copy, Debug, PartialEq, Eq)]
 pub enum Refusal {
     /// The file has no lines: whole records fill the bytes before `at`, and there stands neither a record nor the end.

@@ -1,92 +1,225 @@
-ghost use Rattle.std.specs.Prelude.{◌≡◌, [], ◌∷◌, ◌++◌, OnOk, OnErr};
+ghost use Rattle.std.specs.Prelude.{◌≡◌, ◌/◌, ◌%◌, ◌<◌, true, [], ◌∷◌, ◌++◌, OnOk, OnErr};
+ghost use Rattle.std.specs.Fmt.{digit_glyph};
 ghost use Rattle.bv_io.specs.Shelf.{Rose};
 ghost use Rattle.bv_io.specs.Sink.{with_bytes, WritesPart};
-ghost use Rattle.basv_top.specs.Ending.{message_text, told, limit_word, refusal_text, text_of, line_of};
+ghost use Rattle.basv_top.specs.Ending.{message_text, told, limit_word, trap_word, address_digits, refusal_text, report_text, end_text, text_of, line_of};
 ghost use Rattle.basv_top.specs.Seen.{Writes, seen_sink};
 
 use crate::ending::Ending;
 use crate::refusal::{Refusal, Which};
-use bv_io::{Sink, SinkFault};
+use crate::status::Status;
+use bv_io::{Report, RunEnd, Sink, SinkFault, Trap};
 use itoa::Buffer;
 
-const USAGE: &str =
-    "usage: basv list FILE / compile FILE IMAGE / interp FILE / run IMAGE / selftest SEED LINES";
+const USAGE: &[u8] =
+    b"usage: basv list FILE / compile FILE IMAGE / interp FILE / run IMAGE / selftest SEED LINES";
 
 /// A line on the error output, in pieces. Those that it has not are empty.
 #[derive(Clone, Copy)]
 struct Message<'a> {
-    text: &'a str,
-    name: &'a str,
-    link: &'a str,
-    number: &'a str,
+    text: &'a [u8],
+    name: &'a [u8],
+    link: &'a [u8],
+    number: &'a [u8],
+    tail: &'a [u8],
+    line: &'a [u8],
 }
 
-impl Message<'_> {
+impl<'a> Message<'a> {
+    /// A text, and a number behind it.
+    fn numbered(text: &'a [u8], number: &'a str) -> Message<'a>
+        ensures { message_text result ≡ text.now ++ number.now }
+    {
+        Message {
+            number: number.as_bytes(),
+            ..Message::plain(text)
+        }
+    }
+
     /// The whole of one piece.
-    fn plain(text: &str) -> Message<'_>
+    fn plain(text: &'a [u8]) -> Message<'a>
         ensures text { result.text.now ≡ text.now }
-        ensures others { (result.name.now ≡ []) × (result.link.now ≡ []) × (result.number.now ≡ []) }
+        ensures middle { (result.name.now ≡ []) × (result.link.now ≡ []) × (result.number.now ≡ []) }
+        ensures last { (result.tail.now ≡ []) × (result.line.now ≡ []) }
     {
         Message {
             text,
-            name: "",
-            link: "",
-            number: "",
+            name: b"",
+            link: b"",
+            number: b"",
+            tail: b"",
+            line: b"",
+        }
+    }
+}
+
+/// Room for the numbers of a line.
+#[derive(Drop)]
+struct Numbers {
+    first: Buffer,
+    second: Buffer,
+    address: [u8; 8],
+}
+
+impl Numbers {
+    fn new() -> Numbers {
+        Numbers {
+            first: Buffer::new(),
+            second: Buffer::new(),
+            address: [b'0'; 8],
         }
     }
 }
 
 impl Which {
     /// The limit's word in a line on the error output.
-    fn word(self) -> &'static str
+    fn word(self) -> &'static [u8]
         ensures { result.now ≡ limit_word self }
     {
         match self {
-            Which::File => "file",
-            Which::Names => "names",
-            Which::Strings => "strings",
-            Which::Parameters => "parameters",
-            Which::Dimensions => "dimensions",
-            Which::Input => "input",
-            Which::Image => "image",
+            Which::File => b"file",
+            Which::Names => b"names",
+            Which::Strings => b"strings",
+            Which::Parameters => b"parameters",
+            Which::Dimensions => b"dimensions",
+            Which::Input => b"input",
+            Which::Image => b"image",
         }
     }
 }
 
-fn refusal_message(refusal: Refusal, buffer: &mut Buffer) -> Message<'_>
-    ensures { message_text result ≡ refusal_text refusal }
+/// The word of a trap's kind in a line on the error output.
+fn trap_word(kind: Trap) -> &'static [u8]
+    ensures { result.now ≡ trap_word kind }
 {
-    match refusal {
-        Refusal::Malformed { at } => Message {
-            number: buffer.format(at),
-            ..Message::plain("malformed file at byte ")
-        },
-        Refusal::Outside { line } => Message {
-            number: buffer.format(line),
-            ..Message::plain("outside the profile at line ")
-        },
-        Refusal::Limit { which, count } => Message {
-            text: "limit ",
-            name: which.word(),
-            link: " at ",
-            number: buffer.format(count),
-        },
-        Refusal::NoMemory => Message::plain("no memory"),
+    match kind {
+        Trap::Data => b"data",
+        Trap::Fetch => b"fetch",
+        Trap::Undefined => b"undefined",
+        Trap::Unpredictable => b"unpredictable",
+        Trap::Swi => b"swi",
     }
 }
 
-fn ending_message<'a>(ending: Ending<'a>, buffer: &'a mut Buffer) -> Message<'a>
+/// The hexadecimal digit of an address at the place that has this value, a power of 16.
+fn digit_at(address: u32, place_value: u32) -> u8
+    requires { 0 < place_value }
+    ensures { result ≡ digit_glyph true (address / place_value % 16) }
+{
+    let digit = (address / place_value % 16) as u8;
+    if digit < 10 {
+        b'0' + digit
+    } else {
+        b'A' + (digit - 10)
+    }
+}
+
+/// The eight hexadecimal digits of an address.
+fn address_digits(address: u32) -> [u8; 8]
+    ensures { result ≡ address_digits address }
+{
+    [
+        digit_at(address, 0x1000_0000),
+        digit_at(address, 0x100_0000),
+        digit_at(address, 0x10_0000),
+        digit_at(address, 0x1_0000),
+        digit_at(address, 0x1000),
+        digit_at(address, 0x100),
+        digit_at(address, 0x10),
+        digit_at(address, 1),
+    ]
+}
+
+fn refusal_message(refusal: Refusal, numbers: &mut Numbers) -> Message<'_>
+    ensures { message_text result ≡ refusal_text refusal }
+{
+    match refusal {
+        Refusal::Malformed { at } => {
+            Message::numbered(b"malformed file at byte ", numbers.first.format(at))
+        }
+        Refusal::Outside { line } => {
+            Message::numbered(b"outside the profile at line ", numbers.first.format(line))
+        }
+        Refusal::Limit { which, count } => Message {
+            name: which.word(),
+            link: b" at ",
+            number: numbers.first.format(count).as_bytes(),
+            ..Message::plain(b"limit ")
+        },
+        Refusal::NoMemory => Message::plain(b"no memory"),
+    }
+}
+
+fn report_message(report: Report, numbers: &mut Numbers) -> Message<'_>
+    ensures { message_text result ≡ report_text report }
+{
+    match report {
+        Report::Done => Message::plain(b""),
+        Report::Failed { error, line } => Message {
+            number: numbers.first.format(error).as_bytes(),
+            tail: b" at line ",
+            line: numbers.second.format(line).as_bytes(),
+            ..Message::plain(b"error ")
+        },
+        Report::Stray {
+            kind,
+            address,
+            line,
+        } => {
+            numbers.address = address_digits(address);
+            Message {
+                text: b"stray ",
+                name: trap_word(kind),
+                link: b" at &",
+                number: &numbers.address,
+                tail: b" from line ",
+                line: numbers.second.format(line).as_bytes(),
+            }
+        }
+        Report::InputEnded { line } => {
+            Message::numbered(b"input ended at line ", numbers.first.format(line))
+        }
+    }
+}
+
+fn end_message(end: RunEnd, bound: u64, numbers: &mut Numbers) -> Message<'_>
+    ensures { message_text result ≡ end_text end bound }
+{
+    match end {
+        RunEnd::Over(report) => report_message(report, numbers),
+        RunEnd::Going => Message {
+            number: numbers.first.format(bound).as_bytes(),
+            tail: b" reached",
+            ..Message::plain(b"bound ")
+        },
+        RunEnd::Broken { kind, address } => {
+            numbers.address = address_digits(address);
+            Message {
+                name: trap_word(kind),
+                link: b" at &",
+                number: &numbers.address,
+                ..Message::plain(b"broken ")
+            }
+        }
+    }
+}
+
+fn ending_message<'a>(ending: Ending<'a>, numbers: &'a mut Numbers) -> Message<'a>
     ensures { message_text result ≡ text_of (told ending.entry) }
 {
     match ending {
-        Ending::Done => Message::plain(""),
+        Ending::Done => Message::plain(b""),
         Ending::Usage => Message::plain(USAGE),
-        Ending::Refused(refusal) => refusal_message(refusal, buffer),
+        Ending::Refused(refusal) => refusal_message(refusal, numbers),
         Ending::ReadFault { name } => Message {
-            name,
-            ..Message::plain("cannot read ")
+            name: name.as_bytes(),
+            ..Message::plain(b"cannot read ")
         },
-        Ending::WriteFault => Message::plain("cannot write"),
+        Ending::WriteFault => Message::plain(b"cannot write"),
+        Ending::NotImage { at } => {
+            Message::numbered(b"not an image at byte ", numbers.first.format(at))
+        }
+        Ending::Ran { end, bound } => end_message(end, bound, numbers),
     }
 }
 
@@ -96,8 +229,15 @@ fn write_line<E: Sink>(err: &mut E, message: &Message<'_>) -> Result<(), SinkFau
     ensures part { OnErr result (WritesPart (E.written err.old) (message_text message.now ++ 10 ∷ []) (E.written err.new)) }
     ensures failed { OnErr result (Rose (E.faults err.old) (E.faults err.new)) }
 {
-    'pieces: for piece in [message.text, message.name, message.link, message.number] {
-        err.write(piece.as_bytes())?;
+    'pieces: for piece in [
+        message.text,
+        message.name,
+        message.link,
+        message.number,
+        message.tail,
+        message.line,
+    ] {
+        err.write(piece)?;
     }
     err.write(b"\n")
 }
@@ -107,11 +247,11 @@ fn write_ending<E: Sink>(err: &mut E, ending: Ending<'_>) -> Result<(), SinkFaul
     ensures part { OnErr result (WritesPart (E.written err.old) (line_of (told ending.entry)) (E.written err.new)) }
     ensures failed { OnErr result (Rose (E.faults err.old) (E.faults err.new)) }
 {
-    if let Ending::Done = ending {
+    if let Status::Done = ending.status() {
         return Ok(());
     }
-    let mut buffer = Buffer::new();
-    write_line(err, &ending_message(ending, &mut buffer))
+    let mut numbers = Numbers::new();
+    write_line(err, &ending_message(ending, &mut numbers))
 }
 
 /// Writes the line of an ending on the error output, whose fault changes nothing.

@@ -208,6 +208,18 @@ fn files_are_listed(rt: HostRuntime) -> Result<(), Fail> {
     Ok(())
 }
 
+/// Whether a command on a file ends with this status, this output and this line.
+fn ends(
+    alloc: Global,
+    words: &[&str],
+    file: &[u8],
+    wanted: (Status, &[u8], &[u8]),
+) -> Result<bool, Fail> {
+    let mut shelf = shelf_with(alloc, file)?;
+    let (status, output, line) = run_words(alloc, words, &mut shelf)?;
+    Ok(status == wanted.0 && output.as_slice() == wanted.1 && line.as_slice() == wanted.2)
+}
+
 /// Whether a command ends with this status and this line on the error output, and writes nothing to the output.
 fn says(
     alloc: Global,
@@ -216,9 +228,7 @@ fn says(
     status: Status,
     line: &[u8],
 ) -> Result<bool, Fail> {
-    let mut shelf = shelf_with(alloc, file)?;
-    let (got, output, written) = run_words(alloc, words, &mut shelf)?;
-    Ok(got == status && output.is_empty() && written.as_slice() == line)
+    ends(alloc, words, file, (status, b"", line))
 }
 
 const USAGE: &[u8] =
@@ -352,6 +362,114 @@ fn an_image_breaks(rt: HostRuntime) -> Result<(), Fail> {
         }
     );
     assert!(rt; written.is_empty());
+    Ok(())
+}
+
+/// Image files: the status, the output and the line of their runs.
+const RUNS: [(&[u8], Status, &[u8], &[u8]); 10] = [
+    (VDU_65_IMAGE, Status::Done, b"A", b""),
+    (
+        b"BVA2\x04\0\0\0\x01\0\xa0\xe3\x14\x10\xa0\xe3\x0a\x20\xa0\xe3\x11\0\0\xef",
+        Status::Failed,
+        b"",
+        b"error 20 at line 10\n",
+    ),
+    (
+        b"BVA2\x04\0\0\0\x01\0\xa0\xe3\xff\x14\xa0\xe3\x0a\x20\xa0\xe3\x11\0\0\xef",
+        Status::Failed,
+        b"",
+        b"error -16777216 at line 10\n",
+    ),
+    (
+        b"BVA2\x05\0\0\0\x02\0\xa0\xe3\x01\x10\xa0\xe3\x5a\x20\xa0\xe3\xab\x34\xa0\xe3\x11\0\0\xef",
+        Status::Stray,
+        b"",
+        b"stray data at &AB000000 from line 90\n",
+    ),
+    (
+        b"BVA2\x03\0\0\0\x03\0\xa0\xe3\x0a\x20\xa0\xe3\x11\0\0\xef",
+        Status::InputEnded,
+        b"",
+        b"input ended at line 10\n",
+    ),
+    (
+        UNKNOWN_IMAGE,
+        Status::Broken,
+        b"",
+        b"broken undefined at &00100000\n",
+    ),
+    (
+        b"BVA2\x02\0\0\0\x04\0\xa0\xe3\x11\0\0\xef",
+        Status::Broken,
+        b"",
+        b"broken swi at &00100004\n",
+    ),
+    (
+        b"BVA2\x01\0\0\0\x10\0\0\xe6\0",
+        Status::NotImage,
+        b"",
+        b"not an image at byte 12\n",
+    ),
+    (&[0; 16], Status::NotImage, b"", b"not an image at byte 0\n"),
+    (
+        b"BVA2\x01\0\x20\0",
+        Status::Limit,
+        b"",
+        b"limit image at 2097153\n",
+    ),
+];
+
+#[test]
+fn images_are_run(rt: HostRuntime) -> Result<(), Fail> {
+    for (image, status, output, line) in RUNS {
+        assert!(rt; ends(rt.alloc(), &["run", "f"], image, (status, output, line))?);
+    }
+    assert!(rt;
+        says(
+            rt.alloc(),
+            &["run", "x"],
+            VDU_65_IMAGE,
+            Status::ReadFault,
+            b"cannot read x\n"
+        )?
+    );
+    Ok(())
+}
+
+/// The lines `10VDU 65` to `40VDU 68`.
+const FOUR_LINES: &[u8] =
+    b"\x0d\0\x0a\x08\xef 65\x0d\0\x14\x08\xef 66\x0d\0\x1e\x08\xef 67\x0d\0\x28\x08\xef 68\x0d\xff";
+
+/// Whether a file that is compiled and run ends with this status, this output and this line, where a write to the output
+/// is to fail.
+fn runs_compiled(
+    alloc: Global,
+    file: &[u8],
+    failing: u64,
+    wanted: (Status, &[u8], &[u8]),
+) -> Result<bool, Fail> {
+    let mut shelf = shelf_with(alloc, file)?;
+    run_words(alloc, &["compile", "f", "i"], &mut shelf)?;
+    let words = to_words(alloc, &["run", "i"])?;
+    let mut out = MemSink::new(alloc, 100)?;
+    let mut err = MemSink::new(alloc, 100)?;
+    out.fail_at(failing)?;
+    let status = basv(alloc, words.as_slice(), &mut shelf, &mut out, &mut err);
+    Ok(status == wanted.0 && out.bytes() == wanted.1 && err.bytes() == wanted.2)
+}
+
+#[test]
+fn compiled_images_are_run(rt: HostRuntime) -> Result<(), Fail> {
+    let alloc = rt.alloc();
+    assert!(rt; runs_compiled(alloc, VDU_65, 9, (Status::Done, b"A", b""))?);
+    assert!(rt;
+        runs_compiled(
+            alloc,
+            FOUR_LINES,
+            3,
+            (Status::WriteFault, b"AB", b"cannot write\n")
+        )?
+    );
     Ok(())
 }
 

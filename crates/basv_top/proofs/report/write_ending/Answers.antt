@@ -1,11 +1,14 @@
-use Rattle.std.proofs.Common.{◌≡◌, [], ◌∷◌, ◌++◌, OnOk, OnErr, sym, ap, subst, ◌∙◌}
+use Rattle.std.proofs.Common.{◌≡◌, ◌≢◌, [], ◌∷◌, ◌++◌, OnOk, OnErr, sym, ap, subst, ◌∙◌}
 use Rattle.bv_io.specs.Sink.{with_bytes, WritesPart}
-use Rattle.basv_top.proofs.Endings.{line_of_told}
+use Rattle.basv_top.specs.declared.status.Status.TheVariants as statuses
+use Rattle.basv_top.specs.Ending.{told, status_of}
+use Rattle.basv_top.proofs.Endings.{line_of_ending}
 use Rattle.basv_top.proofs.report.write_ending.Goals as goal
 
 pub returns : goal.returns
 returns g c =
-    let line = ap (λ text. text ++ 10 ∷ []) c.ending_message.ensures ∙ sym (line_of_told c.args.ending c.in_default.not-Done) in
+    let other : status_of (told c.args.ending) ≢ statuses.Done = λ is. c.in_default.not-Done (c.status.ensures ∙ is) in
+    let line = ap (λ text. text ++ 10 ∷ []) c.ending_message.ensures ∙ sym (line_of_ending (told c.args.ending) other) in
     let old = g.E.Sink.written c.args.err.now in
     let new = g.E.Sink.written c.write_line.new.err in
     record {

@@ -1,11 +1,11 @@
-use Rattle.std.proofs.Common.{arith, Ok, Err, OnErr}
+use Rattle.std.proofs.Common.{arith, Ok, Err, OnErr, refl}
 use Rattle.std.proofs.lemmas.Result.{on_ok_weaker, on_err_weaker}
 use Rattle.basv_top.proofs.Written.{piece_written, piece_broken, end_written, end_broken}
 use Rattle.basv_top.proofs.report.write_line.Goals as goal
 
 pub returns-in_err-write-clause-part : goal.returns-in_err-write-clause-part
 returns-in_err-write-clause-part g c =
-    on_err_always c.from_residual.result (piece_broken _ _ _ _ c.pieces.piece-index _ _ _ _ (omega (arith, c.pieces-test.true)) c.as_bytes.ensures.value c.pieces.invariant.0 c.in_err-write.ensures.part)
+    on_err_always c.from_residual.result (piece_broken _ _ _ _ c.pieces.piece-index _ _ _ _ (omega (arith, c.pieces-test.true)) refl c.pieces.invariant.0 c.in_err-write.ensures.part)
   where
     on_err_always : {T E P : Type 0} (r : _) → P → OnErr {T = T} {E = E} r P
     on_err_always (Ok _) p = tt
@@ -13,7 +13,7 @@ returns-in_err-write-clause-part g c =
 
 pub pieces-preserved : goal.pieces-preserved
 pieces-preserved g c = (
-  piece_written _ _ _ _ c.pieces.piece-index _ _ _ (omega (arith, c.pieces-test.true)) c.as_bytes.ensures.value c.pieces.invariant.0 c.in_ok-write.ensures.ok,
+  piece_written _ _ _ _ c.pieces.piece-index _ _ _ (omega (arith, c.pieces-test.true)) refl c.pieces.invariant.0 c.in_ok-write.ensures.ok,
   omega (arith, c.pieces.invariant.1, c.write.ensures.faults),
 )
 

@@ -1,14 +1,13 @@
 use Rattle.std.proofs.Common.{◌≤◌, sym, ap, ◌∙◌, ◌-◌, ◌+◌, [], le_trans, le_refl, ◌^◌, arith}
 use Rattle.std.proofs.lemmas.Grind.{common_steps}
 use Rattle.bv_io.specs.Runs.{Ended, Reports, Breaks}
-use Rattle.bv_io.proofs.Loops.{so_far_goes, so_far_stops, so_far_ends, so_far_faults, with_bytes-nil, so_far_starts, count_starts, count_goes, count_stops, count_ends}
+use Rattle.bv_io.proofs.Loops.{so_far_goes, so_far_stops, so_far_ends, so_far_faults, so_far_starts, count_starts, count_goes, count_stops, count_ends}
 use Rattle.arm2_machine.specs.Step.{board_step}
 use Rattle.arm2_machine.proofs.board.Board.run.Goals as goal
-use Rattle.arm2_machine.proofs.board.Board.run.Goals.{in-Ran, in-Wrote+in_default}
 
 pub returns-in-Err-clause-fault : goal.returns-in-Err-clause-fault
 returns-in-Err-clause-fault g c =
-    so_far_faults board_step _ _ _ _ _ (c.args.bound - (c.steps.counter + 1)) _ _ _ _ (omega arith) c.in-Wrote.ensures.value c.in-Err.ensures.part c.steps.invariant.so_far
+    so_far_faults board_step _ _ _ _ _ (c.args.bound - (c.steps.counter + 1)) _ _ _ _ (omega arith) c.in-Went.ensures.value c.in-Err.ensures.part c.steps.invariant.so_far
 
 pub returns-in-Over-clause-ok : goal.returns-in-Over-clause-ok
 returns-in-Over-clause-ok g c =
@@ -23,26 +22,6 @@ returns-in-Broke-clause-ok g c =
 
 pub returns-clause-ok : goal.returns-clause-ok
 returns-clause-ok g c = so_far_ends board_step _ _ _ _ _ _ (omega arith) c.steps.invariant.so_far
-
-pub steps-preserved : goal.steps-preserved
-steps-preserved g c =
-    let left = c.args.bound - (c.steps.counter + 1) in
-    let written = g.O.Sink.written in
-    record {
-      so_far = elim c.match-step.branch [
-        | in-Ran w ↦ so_far_goes board_step _ _ _ _ _ left [] _ _ _ (omega arith) w.in-Ran.ensures.value (ap written w.out-is ∙ sym (with_bytes-nil _)) c.steps.invariant.so_far
-        | in-Wrote+in_default w ↦ so_far_goes board_step _ _ _ _ _ left _ _ _ _ (omega arith) w.in-Wrote.ensures.value (ap written w.out-is ∙ w.in_default.ensures.ok) c.steps.invariant.so_far
-      ];
-      counted = elim c.match-step.branch [
-        | in-Ran w ↦ count_goes board_step _ _ _ _ _ left _ _ _ [] (omega arith) w.in-Ran.ensures.value c.step.ensures.steps c.steps.invariant.counted
-        | in-Wrote+in_default w ↦ count_goes board_step _ _ _ _ _ left _ _ _ _ (omega arith) w.in-Wrote.ensures.value c.step.ensures.steps c.steps.invariant.counted
-      ];
-      closed = c.step.ensures.closed ∙ c.steps.invariant.closed;
-      faults = elim c.match-step.branch [
-        | in-Ran w ↦ rw w.out-is c.steps.invariant.faults
-        | in-Wrote+in_default w ↦ rw w.out-is (le_trans c.steps.invariant.faults w.write.ensures.faults)
-      ];
-    }
 
 pub returns-in-Over-clause-steps : goal.returns-in-Over-clause-steps
 returns-in-Over-clause-steps g c =
@@ -63,4 +42,14 @@ steps-init g c =
       counted = count_starts board_step _ c.args.bound (c.args.bound - 0) _ (omega arith) fits;
       closed = c.requires;
       faults = le_refl _;
+    }
+
+pub steps-preserved : goal.steps-preserved
+steps-preserved g c =
+    let left = c.args.bound - (c.steps.counter + 1) in
+    record {
+      so_far = so_far_goes board_step _ _ _ _ _ left _ _ _ _ (omega arith) c.in-Went.ensures.value c.in_default.ensures.ok c.steps.invariant.so_far;
+      counted = count_goes board_step _ _ _ _ _ left _ _ _ _ (omega arith) c.in-Went.ensures.value c.step.ensures.steps c.steps.invariant.counted;
+      closed = c.step.ensures.closed ∙ c.steps.invariant.closed;
+      faults = le_trans c.steps.invariant.faults c.write.ensures.faults;
     }

@@ -1,57 +1,34 @@
 ghost use Rattle.std.specs.Prelude.{◌≡◌};
-ghost use Rattle.arm2_machine.specs.Words.{decoded};
-ghost use Rattle.arm2_machine.specs.Step.{trap_of, stray_of, report_of};
-ghost use Rattle.arm2_machine.specs.Actions.{IsWithin};
+ghost use Rattle.arm2_machine.specs.Reports.{trap_of, stray_of, report_of, trap_number};
 
 use bv_io::{Report, Trap};
-
-/// Addresses of instructions are below this, and what follows the last one is the first.
-pub const PC_END: u32 = 0x400_0000;
 
 /// The software interrupt that writes the low byte of R0.
 pub const SWI_WRITE: u32 = 0x00;
 
+/// The software interrupt that writes a new line, the bytes 10 and 13.
+pub const SWI_NEW_LINE: u32 = 0x03;
+
+/// The software interrupt that takes a byte of the input into R0.
+pub const SWI_READ: u32 = 0x04;
+
 /// The software interrupt that ends the run with the report in R0 to R3.
 pub const SWI_END: u32 = 0x11;
 
-/// What a word asks of the processor.
-#[derive(Clone, Copy, Debug, PartialEq, Eq)]
-pub enum Action {
-    /// Puts a value into a register from R0 to R12.
-    Move { register: usize, value: u32 },
-    /// Calls the board by a software interrupt.
-    Swi { number: u32 },
-    /// Nothing that the processor knows.
-    Unknown,
-}
+/// The first of the 256 software interrupts that write the low byte of their number.
+pub const SWI_CHARACTER: u32 = 0x100;
 
-/// What became of an instruction.
-#[derive(Clone, Copy, Debug, PartialEq, Eq)]
-pub enum Happened {
-    Ran,
-    Wrote(u8),
-    Over(Report),
-    Broke { kind: Trap, address: u32 },
-}
-
-/// What a word asks.
-pub fn decode(word: u32) -> Action
-    ensures value { result ≡ decoded word }
-    ensures within { IsWithin result }
+/// The number of a trap's kind.
+pub fn trap_number(kind: Trap) -> u32
+    ensures { result ≡ trap_number kind }
 {
-    if word >> 20 == 0xe3a {
-        let register = (word >> 12) as usize % 16;
-        if register < 13 {
-            let value = (word % 0x100).rotate_right(2 * ((word >> 8) % 16));
-            return Action::Move { register, value };
-        }
-        return Action::Unknown;
+    match kind {
+        Trap::Data => 1,
+        Trap::Fetch => 2,
+        Trap::Undefined => 3,
+        Trap::Unpredictable => 4,
+        Trap::Swi => 5,
     }
-    if word >> 24 == 0xef {
-        let number = word % 0x100_0000;
-        return Action::Swi { number };
-    }
-    Action::Unknown
 }
 
 /// The kind of a trap by its number.

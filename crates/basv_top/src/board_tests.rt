@@ -1,0 +1,113 @@
+//! Runs of the board by words, which are worked out by hand from its definition.
+
+use arm2_machine::Board;
+use bv_io::{MemSink, Report, RunEnd, Trap};
+use std::alloc::Global;
+use std::test::Fail;
+
+/// How the run of an image ends within 200,000 instructions, and what it writes into so much room.
+fn run(
+    alloc: Global,
+    words: &[u32],
+    input: &[u8],
+    room: u32,
+) -> Result<(Option<RunEnd>, Vec<u8>), Fail> {
+    if words.len() > 1000 {
+        return Ok((None, Vec::new(alloc)));
+    }
+    let input = Vec::from_slice(alloc, input)?;
+    let mut board = Board::load(alloc, words, input)?;
+    let mut out = MemSink::new(alloc, room)?;
+    if board.closed() {
+        return Ok((None, Vec::new(alloc)));
+    }
+    let end = board.run(200_000, &mut out).ok();
+    let written = Vec::from_slice(alloc, out.bytes())?;
+    Ok((end, written))
+}
+
+fn ends(alloc: Global, words: &[u32], end: RunEnd, output: &[u8]) -> Result<bool, Fail> {
+    let (got, written) = run(alloc, words, b"x", 100)?;
+    Ok(got == Some(end) && written.as_slice() == output)
+}
+
+const DONE: RunEnd = RunEnd::Over(Report::Done);
+
+#[rattlefmt::skip]
+const SUPERVISOR: [(&[u32], RunEnd, &[u8]); 11] = [
+    // The byte A, and the end.
+    (&[0xe3a0_0041, 0xef00_0000, 0xe3a0_0000, 0xef00_0011], DONE, b"A"),
+    // User mode, through the whole arena of zero words, and out of it.
+    (&[0xe3a0_0902, 0xe1b0_f000, 0xe1a0_3001, 0xe1a0_1000, 0xe3a0_0002, 0xe3a0_2000, 0xef00_0011], RunEnd::Over(Report::Stray { kind: Trap::Fetch, address: 0x8_8000, line: 0 }), b""),
+    // A new line, two bytes of an input of one, and the end.
+    (&[0xef00_0003, 0xef00_0004, 0xef00_0000, 0xef00_0004, 0xef00_0000, 0xe3a0_0000, 0xef00_0011], DONE, b"\n\rx\xff"),
+    // The supervisor goes through the pad as through any word: there the end was stored.
+    (&[0xea00_0000, 0xef00_0016, 0xe59f_1010, 0xe3a0_2902, 0xe522_1004, 0xe3a0_0000, 0xe1a0_f002, 0, 0xef00_0011], DONE, b""),
+    // The reports, and numbers that are none.
+    (&[0xe3a0_0001, 0xe3a0_1014, 0xe3a0_200a, 0xef00_0011], RunEnd::Over(Report::Failed { error: 20, line: 10 }), b""),
+    (&[0xe3a0_0002, 0xe3a0_1005, 0xe3a0_205a, 0xe3a0_3004, 0xef00_0011], RunEnd::Over(Report::Stray { kind: Trap::Swi, address: 4, line: 90 }), b""),
+    (&[0xe3a0_0003, 0xe3a0_200a, 0xef00_0011], RunEnd::Over(Report::InputEnded { line: 10 }), b""),
+    (&[0xe3a0_0002, 0xe3a0_1006, 0xef00_0011], RunEnd::Broken { kind: Trap::Swi, address: 0x10_0008 }, b""),
+    (&[0xe3a0_0004, 0xef00_0011], RunEnd::Broken { kind: Trap::Swi, address: 0x10_0004 }, b""),
+    // A call of user mode, and an access behind the RAM.
+    (&[0xef00_0141], RunEnd::Broken { kind: Trap::Swi, address: 0x10_0000 }, b""),
+    (&[0xe3a0_1401, 0xe591_0000], RunEnd::Broken { kind: Trap::Data, address: 0x100_0000 }, b""),
+];
+
+/// What becomes of an instruction that user mode finds at the arena's start, with 0 in R2. Behind it the arena is zero.
+#[rattlefmt::skip]
+const USER: [(u32, RunEnd, &[u8]); 9] = [
+    // STR R1,[R2]: outside the arena.
+    (0xe582_1000, RunEnd::Over(Report::Stray { kind: Trap::Data, address: 0, line: 90 }), b""),
+    // STRB R1,[R0,#-1], just below it.
+    (0xe540_1001, RunEnd::Over(Report::Stray { kind: Trap::Data, address: 0x7fff, line: 90 }), b""),
+    // To the pad, which goes back to the supervisor.
+    (0xeaff_fffd, DONE, b""),
+    (0xef00_0141, RunEnd::Over(Report::Stray { kind: Trap::Fetch, address: 0x8_8000, line: 90 }), b"A"),
+    (0xef00_0003, RunEnd::Over(Report::Stray { kind: Trap::Fetch, address: 0x8_8000, line: 90 }), b"\n\r"),
+    (0xef00_0016, RunEnd::Over(Report::Stray { kind: Trap::Swi, address: 0x8000, line: 90 }), b""),
+    (0xef00_0011, RunEnd::Over(Report::Stray { kind: Trap::Swi, address: 0x8000, line: 90 }), b""),
+    (0xe600_0010, RunEnd::Over(Report::Stray { kind: Trap::Undefined, address: 0x8000, line: 90 }), b""),
+    (0xe000_0090, RunEnd::Over(Report::Stray { kind: Trap::Unpredictable, address: 0x8000, line: 90 }), b""),
+];
+
+/// Stores an instruction at the arena's start and goes there in user mode. A trap ends as stray at line 90, and a return
+/// as done.
+fn user_ends(alloc: Global, word: u32, end: RunEnd, output: &[u8]) -> Result<bool, Fail> {
+    let words = [
+        0xea00_0007,
+        0xea00_0004,
+        0xe1a0_3001,
+        0xe1a0_1000,
+        0xe3a0_0002,
+        0xe3a0_205a,
+        0xef00_0011,
+        0xe3a0_0000,
+        0xef00_0011,
+        0xe59f_100c,
+        0xe3a0_0902,
+        0xe580_1000,
+        0xe3a0_2000,
+        0xe1b0_f000,
+        word,
+    ];
+    ends(alloc, &words, end, output)
+}
+
+#[test]
+fn images_run_in_both_modes(rt: HostRuntime) -> Result<(), Fail> {
+    for (words, end, output) in SUPERVISOR {
+        assert!(rt; ends(rt.alloc(), words, end, output)?, "{words:?}");
+    }
+    for (word, end, output) in USER {
+        assert!(rt; user_ends(rt.alloc(), word, end, output)?, "{word:x}");
+    }
+    Ok(())
+}
+
+#[test]
+fn a_write_fails(rt: HostRuntime) -> Result<(), Fail> {
+    let (end, written) = run(rt.alloc(), &[0xef00_0003], b"", 1)?;
+    assert!(rt; end.is_none() && written.as_slice() == b"\n".as_slice());
+    Ok(())
+}
