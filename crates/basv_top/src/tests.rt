@@ -473,15 +473,23 @@ fn compiled_images_are_run(rt: HostRuntime) -> Result<(), Fail> {
     Ok(())
 }
 
-/// How often a run in calls of one instruction goes on, up to ten times.
-fn calls_until_over(board: &mut Board, out: &mut MemSink) -> Result<u64, SinkFault> {
+/// How often a run in calls of so many instructions goes on, up to ten times.
+fn calls_until_over(board: &mut Board, out: &mut MemSink, bound: u64) -> Result<u64, SinkFault> {
     for calls in 0..10 {
         if board.closed() {
             return Ok(calls);
         }
-        board.run(1, out)?;
+        board.run(bound, out)?;
     }
     Ok(10)
+}
+
+/// Whether the image of `10VDU 65` runs to the same end in calls of so many instructions.
+fn runs_in_calls(alloc: Global, bound: u64) -> Result<bool, Fail> {
+    let mut board = load(alloc, VDU_65_IMAGE)?;
+    let mut out = MemSink::new(alloc, 1)?;
+    calls_until_over(&mut board, &mut out, bound)?;
+    Ok(board.closed() && board.steps() == 4 && out.bytes() == b"A".as_slice())
 }
 
 #[test]
@@ -489,13 +497,16 @@ fn runs_are_counted(rt: HostRuntime) -> Result<(), Fail> {
     let alloc = rt.alloc();
     let mut board = load(alloc, VDU_65_IMAGE)?;
     let mut out = MemSink::new(alloc, 1)?;
-    assert_eq!(rt; calls_until_over(&mut board, &mut out)?, 4);
+    assert_eq!(rt; calls_until_over(&mut board, &mut out, 1)?, 4);
     assert_eq!(rt; board.steps(), 4);
     assert_eq!(rt; out.bytes(), b"A".as_slice());
     assert_eq!(rt; board.arena().len(), 0x8_0000);
+    for bound in 1..6 {
+        assert!(rt; runs_in_calls(alloc, bound)?, "{bound}");
+    }
     let mut again = load(alloc, VDU_65_IMAGE)?;
     assert!(rt;
-        calls_until_over(&mut again, &mut out).is_err(),
+        calls_until_over(&mut again, &mut out, 1).is_err(),
         "no room is left"
     );
     Ok(())
