@@ -1,3 +1,3 @@
 pub mod Computed
 mod References
-mod Tables
+pub mod Tables

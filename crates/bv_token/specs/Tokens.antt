@@ -1,5 +1,6 @@
 -- The tokens of Acorn's BASIC V and the keywords that they stand for (BBC BASIC Reference Manual, keyword tokens).
 use Rattle.std.specs.Prelude.{ℕ, ◌+◌, ◌-◌, Bool, ◌&&◌, ◌==◌, nat_le, nat_lt, List, [], ◌∷◌, length, get_or, Option, Some, None, bytes_eq, codes, if◌then◌else◌}
+use Rattle.bv_token.specs.declared.tokens.TheConstants.{PAIR_FIRST, PAIR_LAST}
 
 -- a letter put in front of the first word
 abbrev pub onto_first : ℕ → List (List ℕ) → List (List ℕ)
@@ -19,19 +20,19 @@ pub record Row : Type 0 where
 abbrev pub row : ℕ → List ℕ → Row
 row from text = record { from = from; words = words text }
 
--- The keywords of single tokens, sixteen to a row. A dash stands where a token has no keyword: 141 begins a reference
--- to a line, and 198, 199 and 200 begin pairs.
+-- The keywords of single tokens, sixteen to a row. A dash stands where a token has no keyword: 0x8d begins a reference
+-- to a line, and 0xc6, 0xc7 and 0xc8 begin pairs.
 abbrev pub table : List Row
 table =
-    row 127 (codes "OTHERWISE") ∷
-    row 128 (codes "AND DIV EOR MOD OR ERROR LINE OFF STEP SPC TAB( ELSE THEN - OPENIN PTR") ∷
-    row 144 (codes "PAGE TIME LOMEM HIMEM ABS ACS ADVAL ASC ASN ATN BGET COS COUNT DEG ERL ERR") ∷
-    row 160 (codes "EVAL EXP EXT FALSE FN GET INKEY INSTR( INT LEN LN LOG NOT OPENUP OPENOUT PI") ∷
-    row 176 (codes "POINT( POS RAD RND SGN SIN SQR TAN TO TRUE USR VAL VPOS CHR$ GET$ INKEY$") ∷
-    row 192 (codes "LEFT$( MID$( RIGHT$( STR$ STRING$( EOF - - - WHEN OF ENDCASE ELSE ENDIF ENDWHILE PTR") ∷
-    row 208 (codes "PAGE TIME LOMEM HIMEM SOUND BPUT CALL CHAIN CLEAR CLOSE CLG CLS DATA DEF DIM DRAW") ∷
-    row 224 (codes "END ENDPROC ENVELOPE FOR GOSUB GOTO GCOL IF INPUT LET LOCAL MODE MOVE NEXT ON VDU") ∷
-    row 240 (codes "PLOT PRINT PROC READ REM REPEAT REPORT RESTORE RETURN RUN STOP COLOUR TRACE UNTIL WIDTH OSCLI") ∷
+    row 0x7f (codes "OTHERWISE") ∷
+    row 0x80 (codes "AND DIV EOR MOD OR ERROR LINE OFF STEP SPC TAB( ELSE THEN - OPENIN PTR") ∷
+    row 0x90 (codes "PAGE TIME LOMEM HIMEM ABS ACS ADVAL ASC ASN ATN BGET COS COUNT DEG ERL ERR") ∷
+    row 0xa0 (codes "EVAL EXP EXT FALSE FN GET INKEY INSTR( INT LEN LN LOG NOT OPENUP OPENOUT PI") ∷
+    row 0xb0 (codes "POINT( POS RAD RND SGN SIN SQR TAN TO TRUE USR VAL VPOS CHR$ GET$ INKEY$") ∷
+    row 0xc0 (codes "LEFT$( MID$( RIGHT$( STR$ STRING$( EOF - - - WHEN OF ENDCASE ELSE ENDIF ENDWHILE PTR") ∷
+    row 0xd0 (codes "PAGE TIME LOMEM HIMEM SOUND BPUT CALL CHAIN CLEAR CLOSE CLG CLS DATA DEF DIM DRAW") ∷
+    row 0xe0 (codes "END ENDPROC ENVELOPE FOR GOSUB GOTO GCOL IF INPUT LET LOCAL MODE MOVE NEXT ON VDU") ∷
+    row 0xf0 (codes "PLOT PRINT PROC READ REM REPEAT REPORT RESTORE RETURN RUN STOP COLOUR TRACE UNTIL WIDTH OSCLI") ∷
     []
 
 -- a word of the table is a keyword, unless it is the dash
@@ -60,12 +61,12 @@ pair first second word = record { first = first; second = second; word = word }
 -- the keywords of pairs
 abbrev pub pairs : List Pair
 pairs =
-    pair 198 142 (codes "SUM") ∷
-    pair 200 142 (codes "CASE") ∷
-    pair 200 148 (codes "SWAP") ∷
-    pair 200 149 (codes "WHILE") ∷
-    pair 200 152 (codes "QUIT") ∷
-    pair 200 153 (codes "SYS") ∷
+    pair 0xc6 0x8e (codes "SUM") ∷
+    pair 0xc8 0x8e (codes "CASE") ∷
+    pair 0xc8 0x94 (codes "SWAP") ∷
+    pair 0xc8 0x95 (codes "WHILE") ∷
+    pair 0xc8 0x98 (codes "QUIT") ∷
+    pair 0xc8 0x99 (codes "SYS") ∷
     []
 
 -- the keyword of two bytes in these pairs, if they have one
@@ -75,7 +76,7 @@ keyword_of_pair (p ∷ more) first second = if p.first == first && p.second == s
 
 -- a byte that begins a pair
 abbrev pub begins_pair : ℕ → Bool
-begins_pair byte = nat_le 198 byte && nat_le byte 200
+begins_pair byte = nat_le PAIR_FIRST byte && nat_le byte PAIR_LAST
 
 -- the keyword that begins with the first byte, whose second byte counts only in a pair
 abbrev pub keyword_of : ℕ → ℕ → Option (List ℕ)

@@ -20,7 +20,7 @@ pub fn line_ref(bytes: [u8; 3]) -> u16
 pub fn write_ref(number: u16) -> [u8; 3]
     ensures bytes { result ≡ reference_of number }
     ensures read_back { referred (slice_index result 0) (slice_index result 1) (slice_index result 2) ≡ number }
-    ensures range { AllByRecursion (λ byte. (64 ≤ byte) × (byte < 128)) result }
+    ensures range { AllByRecursion (λ byte. (0x40 ≤ byte) × (byte < 0x80)) result }
 {
     let [high, low] = number.to_be_bytes();
     let top_bits = ((low & 0xc0) >> 2) | ((high & 0xc0) >> 4);

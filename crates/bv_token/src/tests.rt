@@ -1,7 +1,7 @@
 //! Values from the tables of tokens and of references themselves.
 
 use crate::reference::{line_ref, write_ref};
-use crate::tokens::keyword;
+use crate::tokens::{begins_pair, keyword};
 use std::test::Fail;
 
 fn is_keyword(first: u8, second: u8, word: &str) -> bool {
@@ -17,6 +17,7 @@ fn keywords_stand_in_the_table(rt: HostRuntime) -> Result<(), Fail> {
     assert!(rt; is_keyword(0xc6, 0x8e, "SUM") && is_keyword(0xc8, 0x8e, "CASE"));
     assert!(rt; keyword(0xc7, 0x8e).is_none() && keyword(0xc8, 0xa3).is_none());
     assert!(rt; keyword(0x7e, 0).is_none() && keyword(0x8d, 0).is_none());
+    assert!(rt; begins_pair(0xc6) && begins_pair(0xc8) && !begins_pair(0xc9));
     Ok(())
 }
 

@@ -8,16 +8,28 @@ pub const OTHERWISE: u8 = 0x7f;
 /// The first of the tokens that stand in rows.
 pub const FIRST_TOKEN: u8 = 0x80;
 
+/// The token of FN, which begins a call of a function.
+pub const FN: u8 = 0xa4;
+
 /// The first of the bytes that begin a token of two bytes.
 pub const PAIR_FIRST: u8 = 0xc6;
 
 /// The last of the bytes that begin a token of two bytes.
 pub const PAIR_LAST: u8 = 0xc8;
 
-/// The token of DATA.
+/// The token of DATA, whose items are the bytes to the line's end.
 pub const DATA: u8 = 0xdc;
 
-/// The token of REM.
+/// The token of END.
+pub const END: u8 = 0xe0;
+
+/// The token of VDU.
+pub const VDU: u8 = 0xef;
+
+/// The token of PROC, which begins a call of a procedure.
+pub const PROC: u8 = 0xf2;
+
+/// The token of REM, whose comment is the bytes to the line's end.
 pub const REM: u8 = 0xf4;
 
 /// The keywords of the tokens from `FIRST_TOKEN` on, sixteen to a row. A token that has none has an empty one.
@@ -71,13 +83,14 @@ fn single_keyword(token: u8) -> &'static str
     }
 }
 
-fn begins_pair(byte: u8) -> bool
+/// Whether the byte begins a token of two bytes: whether it is one of `PAIR_FIRST` to `PAIR_LAST`.
+pub fn begins_pair(byte: u8) -> bool
     ensures { result ≡ begins_pair byte }
 {
     (PAIR_FIRST..=PAIR_LAST).contains(&byte)
 }
 
-/// The keyword of the token `first`, or of the pair of both bytes where `first` is one of `PAIR_FIRST` to `PAIR_LAST`.
+/// The keyword of the token `first`, or of both bytes where `first` begins a token of two bytes.
 /// There is none where the table has none (BBC BASIC Reference Manual, keyword tokens).
 pub fn keyword(first: u8, second: u8) -> Option<&'static [u8]>
     ensures { option_map (λ word. word.now) result ≡ keyword_of first second }
