@@ -1,3 +1,4 @@
 pub mod Computed
+pub mod Lists
 mod References
 pub mod Tables

@@ -1,34 +1,11 @@
 -- A file has one reading: one list of lines, or one place where it is malformed.
 use Rattle.std.proofs.Common.{◌≡◌, ℕ, ◌+◌, ◌/◌, ◌%◌, List, [], ◌∷◌, ◌++◌, length, flat_map, refl, sym, ap, ◌∙◌, arith, append_assoc, length-append}
 use Rattle.std.specs.List.{AllByRecursion}
+pub use Rattle.bv_token.proofs.Lists.{same_head, same_tail}
+use Rattle.bv_token.proofs.Lists.{same_fronts}
+use Rattle.token_file.specs.declared.line.TheConstants.{RECORD_START, END_MARK, HEAD_BYTES}
 use Rattle.token_file.specs.declared.line.Line.{Line}
 use Rattle.token_file.specs.Lines.{record_of, IsLine, Lines, BeginsRecord, BeginsEnd}
-
-tail : {A : Type 0} → List A → List A
-tail [] = []
-tail (x ∷ xs) = xs
-
-head : {A : Type 0} → A → List A → A
-head d [] = d
-head d (x ∷ xs) = x
-
--- equal lists have equal tails and equal heads
-pub same_tail : {A : Type 0} (x y : A) (xs ys : List A) → x ∷ xs ≡ y ∷ ys → xs ≡ ys
-unfolding tail
-same_tail x y xs ys e = ap tail e
-
-pub same_head : {A : Type 0} (x y : A) (xs ys : List A) → x ∷ xs ≡ y ∷ ys → x ≡ y
-unfolding head
-same_head x y xs ys e = ap (head x) e
-
--- two lists of one length in front of two others
-pub same_fronts : (xs ys rest rest' : List ℕ) → length xs ≡ length ys → xs ++ rest ≡ ys ++ rest' → (xs ≡ ys) × (rest ≡ rest')
-same_fronts [] [] rest rest' e same = (refl, same)
-same_fronts [] (y ∷ ys) rest rest' e same = absurd (omega arith)
-same_fronts (x ∷ xs) [] rest rest' e same = absurd (omega arith)
-same_fronts (x ∷ xs) (y ∷ ys) rest rest' e same =
-    let fronts = same_fronts xs ys rest rest' (omega arith) (same_tail x y _ _ same) in
-    ((λ i. same_head x y _ _ same i ∷ fronts.0 i), fronts.1)
 
 number_from_bytes : (a b : ℕ) → a / 256 ≡ b / 256 → a % 256 ≡ b % 256 → a ≡ b
 number_from_bytes a b high low = omega arith
@@ -39,15 +16,15 @@ same_records a b rest rest' e =
     let at1 = same_tail _ _ _ _ e in
     let at2 = same_tail _ _ _ _ at1 in
     let at3 = same_tail _ _ _ _ at2 in
-    let size : length a.text + 4 ≡ length b.text + 4 = same_head _ _ _ _ at3 in
+    let size : length a.text + HEAD_BYTES ≡ length b.text + HEAD_BYTES = same_head _ _ _ _ at3 in
     let number = number_from_bytes a.number b.number (same_head _ _ _ _ at1) (same_head _ _ _ _ at2) in
     let fronts = same_fronts a.text b.text rest rest' (omega arith) (same_tail _ _ _ _ at3) in
     ((λ i. record { number = number i; text = fronts.0 i }), fronts.1)
 
 -- a record isn't the end
-pub record≢end : (line : Line) (rest rest' : List ℕ) → IsLine line → record_of line ++ rest ≡ 13 ∷ 255 ∷ rest' → ⊥
+pub record≢end : (line : Line) (rest rest' : List ℕ) → IsLine line → record_of line ++ rest ≡ RECORD_START ∷ END_MARK ∷ rest' → ⊥
 record≢end line rest rest' is e =
-    let high : line.number / 256 ≡ 255 = same_head _ _ _ _ (same_tail _ _ _ _ e) in
+    let high : line.number / 256 ≡ END_MARK = same_head _ _ _ _ (same_tail _ _ _ _ e) in
     omega (arith, is.number)
 
 -- the lines of a file are determined

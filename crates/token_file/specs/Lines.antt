@@ -1,23 +1,26 @@
--- The records of a tokenised BASIC V file, as Acorn's interpreter keeps a program: a line is the byte 13, its number
--- with the high byte first, its length, and its text.
+-- The records of a tokenised BASIC V file, as Acorn's interpreter keeps a program: a line is the byte `RECORD_START`, its
+-- number with the high byte first, the record's length, and its text.
 use Rattle.std.specs.Prelude.{◌≡◌, ◌≢◌, ℕ, ◌+◌, ◌/◌, ◌%◌, ◌<◌, ◌≤◌, List, [], ◌∷◌, ◌++◌, length, flat_map}
 use Rattle.std.specs.List.{AllByRecursion}
 use Rattle.token_file.specs.declared.line.Line.{Line}
-use Rattle.token_file.specs.declared.line.TheConstants.{LONGEST_TEXT, LINE_NUMBERS}
+use Rattle.bv_token.specs.declared.line.TheConstants.{LONGEST_TEXT}
+use Rattle.token_file.specs.declared.line.TheConstants.{RECORD_START, END_MARK, HEAD_BYTES, LINE_NUMBERS}
 
--- the bytes of a line: 13, the number with its high byte first, four more than the text's length, the text
+-- the bytes of a line: the byte that begins a record, the number with its high byte first, the length of the head and the
+-- text together, the text
 abbrev pub record_of : Line → List ℕ
-record_of line = 13 ∷ (line.number / 256) ∷ (line.number % 256) ∷ (length line.text + 4) ∷ line.text
+record_of line = RECORD_START ∷ (line.number / 256) ∷ (line.number % 256) ∷ (length line.text + HEAD_BYTES) ∷ line.text
 
--- What can be a line: the number's high byte isn't 255, the length is a byte, and the text has no 13.
+-- What can be a line: the number's high byte isn't the end's mark, the length is a byte, and the text has no byte that
+-- begins a record.
 pub record IsLine (line : Line) : Type 0 where
   pub number : line.number < LINE_NUMBERS
   pub short : length line.text ≤ LONGEST_TEXT
-  pub text : AllByRecursion (λ b. b ≢ 13) line.text
+  pub text : AllByRecursion (λ b. b ≢ RECORD_START) line.text
 
--- A file of these lines: their records, then 13 and 255, then anything.
+-- A file of these lines: their records, then the end, then anything.
 abbrev pub Lines : List ℕ → List Line → Type 0
-Lines bytes [] = (rest : List ℕ) × (bytes ≡ 13 ∷ 255 ∷ rest)
+Lines bytes [] = (rest : List ℕ) × (bytes ≡ RECORD_START ∷ END_MARK ∷ rest)
 Lines bytes (line ∷ lines) = (rest : List ℕ) × IsLine line × (bytes ≡ record_of line ++ rest) × Lines rest lines
 
 -- a whole record stands at the front
@@ -26,7 +29,7 @@ BeginsRecord bytes = (line : Line) × (rest : List ℕ) × IsLine line × (bytes
 
 -- the end of the program stands at the front
 abbrev pub BeginsEnd : List ℕ → Type 0
-BeginsEnd bytes = (rest : List ℕ) × (bytes ≡ 13 ∷ 255 ∷ rest)
+BeginsEnd bytes = (rest : List ℕ) × (bytes ≡ RECORD_START ∷ END_MARK ∷ rest)
 
 -- Whole records fill the bytes up to a place, and neither a whole record nor the end stands there.
 pub record Malformed (bytes : List ℕ) (place : ℕ) : Type 0 where

@@ -5,6 +5,6 @@ mod line;
 mod read;
 mod write;
 
-pub use line::{LINE_NUMBERS, LONGEST_TEXT, Line};
+pub use line::{END_MARK, HEAD_BYTES, LINE_NUMBERS, Line, RECORD_START};
 pub use read::{FileError, read_file};
 pub use write::write_file;

@@ -1,9 +1,16 @@
+use bv_token::LONGEST_TEXT;
 use sqlite_items::Items;
 
-/// The greatest number of bytes in a line's text.
-pub const LONGEST_TEXT: usize = 251;
+/// The byte that begins each record, and the program's end. No text has it.
+pub const RECORD_START: u8 = 13;
 
-/// Line numbers are below this: a record's high byte is not 255, which marks the program's end.
+/// The byte that stands behind `RECORD_START` at the program's end. It is no line number's high byte.
+pub const END_MARK: u8 = 0xff;
+
+/// The number of bytes before a record's text: `RECORD_START`, two for the line's number, and one for the record's length.
+pub const HEAD_BYTES: u8 = 4;
+
+/// Line numbers are below this, since their high byte is below `END_MARK`.
 pub const LINE_NUMBERS: u16 = 0xff00;
 
 /// A line of a program: its number and its tokenised text.
@@ -18,13 +25,13 @@ impl Line {
     ghost use Rattle.token_file.specs.Lines.{IsLine};
 
     /// Whether a record of a file can hold the line: its number is below `LINE_NUMBERS`, and its text has at most
-    /// `LONGEST_TEXT` bytes, none of which is 13.
+    /// `LONGEST_TEXT` bytes, none of which is `RECORD_START`.
     pub fn fits_record(&self) -> bool
         ensures { IsTrue result ↔ IsLine self.now }
     {
         if self.number >= LINE_NUMBERS || self.text.len() > LONGEST_TEXT {
             return false;
         }
-        !self.text.as_slice().contains(&13)
+        !self.text.as_slice().contains(&RECORD_START)
     }
 }

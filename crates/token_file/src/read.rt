@@ -2,7 +2,7 @@ ghost use Rattle.std.specs.Prelude.{◌≡◌, ◌≢◌, ℕ, ◌^◌, ◌<◌,
 ghost use Rattle.token_file.specs.Lines.{Lines};
 ghost use Rattle.token_file.specs.Read.{IsFront, ExplainsFile};
 
-use crate::line::Line;
+use crate::line::{END_MARK, HEAD_BYTES, Line, RECORD_START};
 use sqlite_items::Items;
 use std::alloc::{AllocError, AllocFailed, Global};
 use thiserror::Error;
@@ -53,12 +53,12 @@ enum Front<'a> {
     Neither,
 }
 
-/// The front of a part of a file that begins with these four bytes, of which the first is 13.
+/// The front of a part of a file that begins with `RECORD_START` and these three bytes.
 fn read_record(high: u8, low: u8, size: u8, after: &[u8]) -> Front<'_>
-    requires { high ≢ 255 }
-    ensures { IsFront (13 ∷ high ∷ low ∷ size ∷ after.now) result }
+    requires { high ≢ END_MARK }
+    ensures { IsFront (RECORD_START ∷ high ∷ low ∷ size ∷ after.now) result }
 {
-    let Some(count) = size.checked_sub(4) else {
+    let Some(count) = size.checked_sub(HEAD_BYTES) else {
         return Front::Neither;
     };
     let count = usize::from(count);
@@ -66,10 +66,10 @@ fn read_record(high: u8, low: u8, size: u8, after: &[u8]) -> Front<'_>
         return Front::Neither;
     }
     let (text, after) = after.split_at(count);
-    if text.contains(&13) {
+    if text.contains(&RECORD_START) {
         return Front::Neither;
     }
-    let number = u16::from(high) * 256 + u16::from(low);
+    let number = u16::from_be_bytes([high, low]);
     Front::Record {
         number,
         text,
@@ -81,8 +81,8 @@ fn read_front(bytes: &[u8]) -> Front<'_>
     ensures { IsFront bytes.now result }
 {
     match bytes {
-        [13, 255, ..] => Front::End,
-        [13, high, low, size, after @ ..] => read_record(*high, *low, *size, after),
+        [RECORD_START, END_MARK, ..] => Front::End,
+        [RECORD_START, high, low, size, after @ ..] => read_record(*high, *low, *size, after),
         _ => Front::Neither,
     }
 }

@@ -1,7 +1,7 @@
 ghost use Rattle.std.specs.Prelude.{◌≡◌, ◌++◌, All, IfOk, OnOk};
 ghost use Rattle.token_file.specs.Lines.{IsLine, record_of, Lines, HasOneReading};
 
-use crate::line::Line;
+use crate::line::{END_MARK, HEAD_BYTES, Line, RECORD_START};
 use bv_io::NoMemory;
 use std::alloc::{AllocError, Global};
 
@@ -9,9 +9,9 @@ fn push_record(bytes: &mut Vec<u8>, line: &Line) -> Result<(), AllocError>
     requires { IsLine line.now }
     ensures { OnOk result (bytes.new.items ≡ bytes.old.items ++ record_of line.now) }
 {
-    let size = line.text.len() as u8 + 4;
+    let size = line.text.len() as u8 + HEAD_BYTES;
     let [high, low] = line.number.to_be_bytes();
-    bytes.extend_from_slice(&[13, high, low, size])?;
+    bytes.extend_from_slice(&[RECORD_START, high, low, size])?;
     bytes.extend_from_slice(line.text.as_slice())
 }
 
@@ -26,6 +26,6 @@ pub fn write_file(alloc: Global, lines: &[Line]) -> Result<Vec<u8>, NoMemory>
     for line in lines {
         push_record(&mut bytes, line)?;
     }
-    bytes.extend_from_slice(&[13, 255])?;
+    bytes.extend_from_slice(&[RECORD_START, END_MARK])?;
     Ok(bytes)
 }

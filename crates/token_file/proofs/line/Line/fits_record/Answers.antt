@@ -1,5 +1,6 @@
 use Rattle.std.proofs.Common.{◌<◌, ◌≤◌, length, arith}
-use Rattle.token_file.specs.declared.line.TheConstants.{LINE_NUMBERS, LONGEST_TEXT}
+use Rattle.bv_token.specs.declared.line.TheConstants.{LONGEST_TEXT}
+use Rattle.token_file.specs.declared.line.TheConstants.{LINE_NUMBERS}
 use Rattle.token_file.proofs.Fronts.{fits_text}
 use Rattle.token_file.proofs.line.Line.fits_record.Goals as goal
 
