@@ -1,7 +1,7 @@
 -- A symbol's first byte tells which kinds it can be of.
 use Rattle.std.proofs.Common.{◌≡◌, ◌≢◌, ◌⊎◌, inl, inr, ℕ, zero, suc, ◌-◌, ◌≤◌, ◌<◌, Bool, true, false, ◌==◌, nat_le, if◌then◌else◌, List, [], ◌∷◌, ◌++◌, slice_get, Option, Some, None, refl, sym, ap, subst, ◌∙◌, arith, true≢false, leb-true, ltb-true, ℤ}
 use Rattle.std.specs.List.{list_all}
-use Rattle.std.proofs.lemmas.Bool.{and_parts, cases_eq}
+use Rattle.std.proofs.lemmas.Bool.{and_parts, cases_eq, cond-true}
 use Rattle.std.proofs.lemmas.Bool.Decides.{nat_tests}
 use Rattle.bv_token.specs.declared.reference.TheConstants.{LINE_REFERENCE}
 use Rattle.bv_token.specs.declared.tokens.TheConstants.{OTHERWISE}
@@ -15,7 +15,7 @@ use Rattle.bas_lex.specs.Bytes.{is_within, begins_name, Each}
 use Rattle.bas_lex.specs.Kinds.{IsSymbol, IsSingle, IsPair, IsCall, IsNumber, is_digit, signs, IsSign}
 use Rattle.bas_lex.specs.Scan.{Best, Names, SystemNames, Calls, Labels, Numbers, Texts, LineRefs, Tokens, Signs}
 use Rattle.bas_lex.proofs.Fronts.{best_map}
-use Rattle.bas_lex.proofs.Runs.{same_head}
+use Rattle.bv_token.proofs.Lists.{same_head}
 use Rattle.bas_lex.proofs.Tokens.{pair_begins, keyword_is_high}
 
 -- what can begin with a byte
@@ -50,11 +50,8 @@ of_class OfSign asm = Signs
 of_class (OfCall function) asm = Calls function
 of_class (OfNumber radix) asm = Numbers radix
 
-if_true : {A : Type 0} (t : Bool) (x y : A) → t ≡ true → (if t then x else y) ≡ x
-if_true t x y e = ap (λ b. if b then x else y) e
-
 pub class_name : (b : ℕ) → begins_name b ≡ true → class_of b ≡ OfName
-class_name b begins = if_true (begins_name b) _ _ begins
+class_name b begins = cond-true (begins_name b) _ _ begins
 
 pub class_decimal : (b : ℕ) → 48 ≤ b → b ≤ 57 → class_of b ≡ OfNumber radixes.Decimal
 class_decimal b low high = grind (arith, nat_tests)

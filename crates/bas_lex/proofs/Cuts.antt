@@ -1,11 +1,12 @@
 -- Cuts of a text, piece by piece.
 use Rattle.std.proofs.Common.{◌≡◌, ◌≢◌, ℕ, ◌+◌, ◌≤◌, ◌<◌, Bool, List, [], ◌∷◌, ◌++◌, length, refl, sym, ap, subst, ◌∙◌, arith, append_assoc, append-nil, length-append}
+use Rattle.std.proofs.lemmas.List.{nil_from_length}
 use Rattle.bas_lex.specs.declared.symbol.LexError.{LexError}
 use Rattle.bas_lex.specs.declared.symbol.LexError.TheVariants as errors
 use Rattle.bas_lex.specs.declared.symbol.Mode.{Mode}
 use Rattle.bas_lex.specs.declared.symbol.Sym.{Sym}
-use Rattle.bas_lex.specs.Cut.{Piece, Space, Comment, Symbol, Tailed, bytes_of, Fits, behind, at_line, Cuts, piece_symbols, symbols_of, Symbols, AreInOrder, Bad, Explains}
-use Rattle.bas_lex.specs.Next.{NoPiece, TakesPiece, ExplainsPiece}
+use Rattle.bas_lex.specs.Cut.{Piece, Space, Comment, Symbol, Tailed, bytes_of, Fits, behind, at_line, Cuts, piece_symbols, symbols_of, Symbols, AreInOrder, Bad, Explains, NoPiece}
+use Rattle.bas_lex.specs.Next.{TakesPiece, ExplainsPiece}
 use Rattle.bas_lex.proofs.Pieces.{piece_shortens}
 
 -- one piece more
@@ -35,9 +36,6 @@ pub record IsCutSoFar (asm : Bool) (text : List ℕ) (mode : Mode) (rest : List 
   pub cut : Cuts (at_line asm) text pieces mode rest
   pub listed : list ≡ symbols_of 0 (at_line asm) pieces
 
-pub nothing_cut : (asm : Bool) (text : List ℕ) → IsCutSoFar asm text (at_line asm) text []
-nothing_cut asm text = record { pieces = []; cut = (refl, refl); listed = refl }
-
 pub cut_more : (asm : Bool) (text : List ℕ) (mode mode' : Mode) (rest rest' : List ℕ) (list list' : List Sym) (at : ℕ) → IsCutSoFar asm text mode rest list → at + length rest ≡ length text → TakesPiece at rest mode list rest' mode' list' → IsCutSoFar asm text mode' rest' list'
 cut_more asm text mode mode' rest rest' list list' at so_far place taken = record {
   pieces = so_far.pieces ++ taken.piece ∷ [];
@@ -50,14 +48,10 @@ pub all_cut : (asm : Bool) (text : List ℕ) (mode : Mode) (rest : List ℕ) (li
 all_cut asm text mode rest list list' so_far none list_is = record {
   pieces = so_far.pieces;
   last = mode;
-  cut = subst (λ r. Cuts (at_line asm) text so_far.pieces mode r) (empty rest none) so_far.cut;
+  cut = subst (λ r. Cuts (at_line asm) text so_far.pieces mode r) (nil_from_length rest none) so_far.cut;
   listed = list_is ∙ so_far.listed;
   after = refl;
 }
-  where
-    empty : (xs : List ℕ) → length xs ≡ 0 → xs ≡ []
-    empty [] e = refl
-    empty (x ∷ xs) e = absurd (omega (arith, e))
 
 pub is_bad : (asm : Bool) (text : List ℕ) (mode : Mode) (rest : List ℕ) (list : List Sym) (at : ℕ) → IsCutSoFar asm text mode rest list → at + length rest ≡ length text → rest ≢ [] → NoPiece mode.asm rest → Bad asm text at
 is_bad asm text mode rest list at so_far place some none = record {

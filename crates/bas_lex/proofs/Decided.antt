@@ -19,10 +19,9 @@ use Rattle.bas_lex.specs.declared.symbol.SymKind.TheVariants as kinds
 use Rattle.bas_lex.specs.declared.token.TheConstants.{FN, PROC}
 use Rattle.bas_lex.specs.Bytes.{begins_name, is_in_name}
 use Rattle.bas_lex.specs.Kinds.{IsSymbol, suffix_bytes, bracket_bytes, call_token, radix_mark, value_bound, is_digit, value_of, signs}
-use Rattle.bas_lex.specs.Cut.{Longest, Piece, Space, Comment, Tailed, begins_comment, AtComment, Fits, behind, behind_symbol, symbol_at, at_line, Cuts, symbols_of, Symbols, Bad}
+use Rattle.bas_lex.specs.Cut.{Longest, Piece, Space, Comment, Tailed, begins_comment, AtComment, Fits, behind, behind_symbol, symbol_at, at_line, Cuts, symbols_of, Symbols, Bad, NoPiece}
 use Rattle.bas_lex.specs.Scan.{Best, SystemNames, Calls, Labels, Numbers, Texts, LineRefs, Tokens, Signs, SignsOf, IsRun, is_suffix, SplitsSuffix, SplitsBracket, SplitsPercent, EndsName, EndsLabel, NoLabelName, HasDigits, ClosesLast, longer_sign}
-use Rattle.bas_lex.specs.Next.{NoPiece}
-use Rattle.bas_lex.proofs.Runs.{same_head, same_tail}
+use Rattle.bv_token.proofs.Lists.{same_head, same_tail}
 use Rattle.bas_lex.proofs.Names.{name_best, call_best, no_call_best, system_best, no_system_name, label_plain, label_system, no_label_name, label_best, no_label, no_label_off}
 use Rattle.bas_lex.proofs.Numbers.{no_digits, too_great, number_best}
 use Rattle.bas_lex.proofs.Texts.{text_best, no_text, last_of}

@@ -8,7 +8,8 @@ use Rattle.bv_token.specs.Tokens.{keyword_of_token}
 use Rattle.bas_lex.specs.Kinds.{IsSuffix, suffix_bytes, bracket_bytes, GoesOn, IsName, call_token, IsSingle}
 use Rattle.bas_lex.specs.Cut.{Begins, Longest}
 use Rattle.bas_lex.specs.Scan.{Names, SystemNames, Calls, Labels, IsRun, is_percent, is_suffix, is_bracket, SplitsSuffix, SplitsBracket, SplitsPercent, EndsName, EndsLabel, NoLabelName}
-use Rattle.bas_lex.proofs.Runs.{same_head, same_tail, not_first, covers, each_back}
+use Rattle.bv_token.proofs.Lists.{same_head, same_tail}
+use Rattle.bas_lex.proofs.Runs.{not_first, covers, each_back}
 
 -- a bracket is taken where it stands
 bracket_fits : (text rest rest' : List ℕ) (bracket other : Bool) → SplitsBracket text bracket rest → text ≡ bracket_bytes other ++ rest' → length (bracket_bytes other) + length rest ≤ length text
@@ -74,9 +75,6 @@ no_letter_first suffix bracket rest (inr (inr p)) = inl (subst (λ n. NotFirst i
 pub end_is_longest : (text : List ℕ) (end : NameEnd) (suffix : ℕ) (bracket : Bool) (bytes rest : List ℕ) → EndsName text end → GoesOn suffix bracket bytes → text ≡ bytes ++ rest → length bytes ≤ end.size
 end_is_longest text end suffix bracket bytes rest ends goes e = by_more covered.0 covered.1 covered.2
   where
-    last : List ℕ
-    last = suffix_bytes suffix ++ bracket_bytes bracket
-
     covered : (more : List ℕ) × (ends.letters.run ≡ goes.letters ++ more) × ((suffix_bytes suffix ++ bracket_bytes bracket) ++ rest ≡ more ++ ends.behind_letters)
     covered = covers is_in_name ends.letters.run goes.letters ends.behind_letters _ goes.each ends.letters.stops (sym ends.letters.split ∙ e ∙ ap (λ l. l ++ rest) goes.spelled ∙ append_assoc goes.letters _ rest)
 
@@ -191,9 +189,6 @@ no_system_name after none kind n b = absurd b.is
 label_fits : (first : ℕ) (after behind rest : List ℕ) (run : IsRun is_in_name after behind) → SplitsPercent behind rest → (suffix : ℕ) (bytes rest' : List ℕ) → suffix ≢ 36 → GoesOn suffix false bytes → after ≡ bytes ++ rest' → length bytes + length rest ≤ length after
 label_fits first after behind rest run percent suffix bytes rest' no_string goes e = by_more covered.0 covered.1 covered.2
   where
-    last : List ℕ
-    last = suffix_bytes suffix ++ []
-
     covered : (more : List ℕ) × (run.run ≡ goes.letters ++ more) × ((suffix_bytes suffix ++ []) ++ rest' ≡ more ++ behind)
     covered = covers is_in_name run.run goes.letters behind _ goes.each run.stops (sym run.split ∙ e ∙ ap (λ l. l ++ rest') goes.spelled ∙ append_assoc goes.letters _ rest')
 

@@ -2,6 +2,7 @@
 use Rattle.std.proofs.Common.{◌≡◌, ◌≢◌, ℕ, ◌+◌, ◌*◌, ◌≤◌, ◌<◌, min, true, List, [], ◌∷◌, ◌++◌, length, refl, sym, ap, subst, ◌∙◌, arith, append_assoc, length-append, ℤ}
 use Rattle.std.specs.Int.{w32, cast_signed, cast_unsigned}
 use Rattle.std.proofs.lemmas.Int.{of_z-to_z}
+use Rattle.std.proofs.lemmas.List.{append_cancel_left, nil_from_length}
 use Rattle.std.proofs.lemmas.List.Sums.{fold-append}
 use Rattle.bas_lex.specs.declared.number.Digits.{Digits}
 use Rattle.bas_lex.specs.declared.number.Radix.{Radix}
@@ -34,9 +35,6 @@ digit_read radix text rest after c digit value by by_is rest_is passes is r = re
   is_value = is_value;
 }
   where
-    step : ℕ → ℕ → ℕ
-    step = λ n d. base radix * n + digit_value d
-
     is_value : min (by * value + digit) VALUE_CAP ≡ min (value_of radix (r.reads.run ++ c ∷ [])) VALUE_CAP
     is_value =
         ap (λ b. min (b * value + digit) VALUE_CAP) by_is
@@ -53,11 +51,6 @@ digits_read radix text rest digits r stops count = record {
   count = omega (arith, count, ap length r.reads.split, length-append r.reads.run rest);
 }
 
-pub cancels : (radix : Radix) (xs ys : List ℕ) → radix_mark radix ++ xs ≡ radix_mark radix ++ ys → xs ≡ ys
-cancels radixes.Decimal xs ys e = e
-cancels radixes.Hexadecimal xs ys e = cc
-cancels radixes.Binary xs ys e = cc
-
 below_cap : (radix : Radix) (n : ℕ) → n < value_bound radix → n < 4294967296
 below_cap radixes.Decimal n small = omega (arith, small)
 below_cap radixes.Hexadecimal n small = small
@@ -70,7 +63,7 @@ bound_within radix n large = omega (arith, large)
 all_digits : (radix : Radix) (text : List ℕ) (digits : Digits) (has : HasDigits radix text digits) (other : SymKind) (n : ℕ) (b : Begins (Numbers radix) (radix_mark radix ++ text) other n)
     → (value_of radix has.run.run < value_bound radix) × (has.run.run ≢ []) × (n ≡ length (radix_mark radix) + digits.count)
 all_digits radix text digits has (kinds.Number value) n b =
-    let whole : text ≡ b.is.digits ++ b.rest = cancels radix text _ (b.split ∙ ap (λ l. l ++ b.rest) b.is.spelled ∙ append_assoc (radix_mark radix) b.is.digits b.rest) in
+    let whole : text ≡ b.is.digits ++ b.rest = append_cancel_left (radix_mark radix) text _ (b.split ∙ ap (λ l. l ++ b.rest) b.is.spelled ∙ append_assoc (radix_mark radix) b.is.digits b.rest) in
     let same = same_runs (is_digit radix) has.run.run b.is.digits has.rest b.rest has.run.each b.is.each has.run.stops b.is.all (sym has.run.split ∙ whole) in (
       subst (λ l. value_of radix l < value_bound radix) (sym same.0) b.is.small,
       λ e. b.is.some (sym same.0 ∙ e),
@@ -79,11 +72,7 @@ all_digits radix text digits has (kinds.Number value) n b =
 all_digits radix text digits has kind n b = absurd b.is
 
 pub no_digits : (radix : Radix) (text : List ℕ) (digits : Digits) → HasDigits radix text digits → digits.count ≡ 0 → (kind : SymKind) (n : ℕ) → Begins (Numbers radix) (radix_mark radix ++ text) kind n → ⊥
-no_digits radix text digits has none kind n b = (all_digits radix text digits has kind n b).1 (empty has.run.run (omega (arith, has.count, none)))
-  where
-    empty : (xs : List ℕ) → length xs ≡ 0 → xs ≡ []
-    empty [] e = refl
-    empty (x ∷ xs) e = absurd (omega (arith, e))
+no_digits radix text digits has none kind n b = (all_digits radix text digits has kind n b).1 (nil_from_length has.run.run (omega (arith, has.count, none)))
 
 pub too_great : (radix : Radix) (text : List ℕ) (digits : Digits) → HasDigits radix text digits → (bound : ℕ) → bound ≡ value_bound radix → bound ≤ digits.value → (kind : SymKind) (n : ℕ) → Begins (Numbers radix) (radix_mark radix ++ text) kind n → ⊥
 too_great radix text digits has bound bound_is large kind n b =

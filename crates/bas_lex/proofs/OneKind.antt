@@ -1,17 +1,18 @@
 -- Bytes are one symbol of one kind at most.
-use Rattle.std.proofs.Common.{◌≡◌, ◌⊎◌, inl, inr, ℕ, ℤ, zero, suc, Bool, true, false, not, ◌&&◌, ◌==◌, if◌then◌else◌, List, [], ◌∷◌, ◌++◌, length, slice_get, bytes_eq, Some, None, refl, sym, ap, subst, ◌∙◌, arith, true≢false}
+use Rattle.std.proofs.Common.{◌≡◌, ◌⊎◌, inl, inr, ℕ, ℤ, zero, suc, Bool, true, false, not, ◌&&◌, ◌==◌, if◌then◌else◌, List, [], ◌∷◌, ◌++◌, length, slice_get, bytes_eq, Some, None, refl, sym, ap, subst, ◌∙◌, arith}
 use Rattle.std.specs.List.{list_all}
 use Rattle.std.specs.Int.{w32, cast_signed}
-use Rattle.std.proofs.lemmas.Bool.{and_parts}
+use Rattle.std.proofs.lemmas.Bool.{and_parts, both_ways, not-true}
+use Rattle.std.proofs.lemmas.List.{append_cancel_left}
 use Rattle.std.proofs.lemmas.Slice.Eq.{bytes_eq-Decides}
 use Rattle.bv_token.specs.References.{referred}
 use Rattle.bas_lex.specs.declared.number.Radix.{Radix}
 use Rattle.bas_lex.specs.declared.symbol.SymKind.{SymKind}
 use Rattle.bas_lex.specs.declared.symbol.SymKind.TheVariants as kinds
 use Rattle.bas_lex.specs.Bytes.{is_in_name, NotFirst}
-use Rattle.bas_lex.specs.Kinds.{IsSymbol, IsSingle, IsPair, IsSuffix, suffix_bytes, bracket_bytes, GoesOn, IsPlainName, IsCall, IsNumber, IsLineRef, value_of, signs}
-use Rattle.bas_lex.proofs.Runs.{same_head, same_tail, same_runs}
-use Rattle.bas_lex.proofs.Numbers.{cancels}
+use Rattle.bas_lex.specs.Kinds.{IsSymbol, IsSingle, IsPair, IsSuffix, suffix_bytes, bracket_bytes, GoesOn, IsPlainName, IsCall, IsNumber, IsLineRef, radix_mark, value_of, signs}
+use Rattle.bv_token.proofs.Lists.{same_head, same_tail}
+use Rattle.bas_lex.proofs.Runs.{same_runs}
 use Rattle.bas_lex.proofs.Classes.{Class, OfName, OfSystemName, OfText, OfLabel, OfLineRef, OfToken, OfSign, OfCall, OfNumber, class_of, of_class, class_of_symbol, at_place}
 
 -- the suffix and the bracket of what stands behind the letters
@@ -63,7 +64,7 @@ call_once function a b c d bytes same_function f g =
 
 number_once : (radix : Radix) (a b : ℤ) (bytes rest : List ℕ) → IsNumber radix a bytes rest → IsNumber radix b bytes rest → a ≡ b
 number_once radix a b bytes rest f g =
-    let digits : f.digits ≡ g.digits = cancels radix f.digits g.digits (sym f.spelled ∙ g.spelled) in
+    let digits : f.digits ≡ g.digits = append_cancel_left (radix_mark radix) f.digits g.digits (sym f.spelled ∙ g.spelled) in
     f.signed ∙ ap (λ l. cast_signed w32 (value_of radix l)) digits ∙ sym g.signed
 
 line_ref_once : (a b : ℕ) (bytes : List ℕ) → IsLineRef a bytes → IsLineRef b bytes → a ≡ b
@@ -89,19 +90,15 @@ abbrev all_differ : List (List ℕ) → Bool
 all_differ [] = true
 all_differ (x ∷ table) = list_all (λ y. not (bytes_eq y x)) table && all_differ table
 
-not-true-false : (t : Bool) → not t ≡ true → t ≡ true → ⊥
-not-true-false true e f = true≢false (sym e)
-not-true-false false e f = true≢false (sym f)
-
 one_place : (table : List (List ℕ)) (n m : ℕ) (sign : List ℕ) → all_differ table ≡ true → slice_get table n ≡ Some sign → slice_get table m ≡ Some sign → n ≡ m
 one_place [] n m sign differ f g = absurd (let no_sign : None ≡ Some sign = f in cc)
 one_place (x ∷ table) zero zero sign differ f g = refl
 one_place (x ∷ table) zero (suc m) sign differ f g =
     let same : sign ≡ x = cc in
-    absurd (not-true-false (bytes_eq sign x) (at_place (λ y. not (bytes_eq y x)) table m sign (and_parts _ (all_differ table) differ).0 g) ((bytes_eq-Decides sign x).1 same))
+    absurd (both_ways (bytes_eq sign x) (not-true (bytes_eq sign x) (at_place (λ y. not (bytes_eq y x)) table m sign (and_parts _ (all_differ table) differ).0 g)) ((bytes_eq-Decides sign x).1 same))
 one_place (x ∷ table) (suc n) zero sign differ f g =
     let same : sign ≡ x = cc in
-    absurd (not-true-false (bytes_eq sign x) (at_place (λ y. not (bytes_eq y x)) table n sign (and_parts _ (all_differ table) differ).0 f) ((bytes_eq-Decides sign x).1 same))
+    absurd (both_ways (bytes_eq sign x) (not-true (bytes_eq sign x) (at_place (λ y. not (bytes_eq y x)) table n sign (and_parts _ (all_differ table) differ).0 f)) ((bytes_eq-Decides sign x).1 same))
 one_place (x ∷ table) (suc n) (suc m) sign differ f g =
     let same = one_place table n m sign (and_parts (list_all (λ y. not (bytes_eq y x)) table) _ differ).1 f g in omega (arith, same)
 

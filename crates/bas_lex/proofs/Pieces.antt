@@ -1,5 +1,5 @@
 -- What begins a text: a piece, or none.
-use Rattle.std.proofs.Common.{◌≡◌, ◌≢◌, ◌⊎◌, inl, inr, ℕ, suc, ◌+◌, ◌-◌, ◌≤◌, ◌<◌, Bool, false, List, [], ◌∷◌, ◌++◌, length, take, drop, None, refl, sym, ap, subst, ◌∙◌, arith, append-nil, length-append, true≢false, take_all, length-drop}
+use Rattle.std.proofs.Common.{◌≡◌, ◌≢◌, ◌⊎◌, inl, inr, ℕ, suc, ◌+◌, ◌<◌, Bool, false, List, [], ◌∷◌, ◌++◌, length, drop, None, refl, sym, ap, subst, ◌∙◌, arith, append-nil, length-append, true≢false}
 use Rattle.std.proofs.Math.Seq.{drop-append_seam}
 use Rattle.bv_token.specs.declared.tokens.TheConstants.{REM, DATA}
 use Rattle.bas_lex.specs.declared.front.Front.{Front}
@@ -8,10 +8,10 @@ use Rattle.bas_lex.specs.declared.symbol.Sym.{Sym}
 use Rattle.bas_lex.specs.declared.symbol.SymKind.{SymKind}
 use Rattle.bas_lex.specs.declared.symbol.SymKind.TheVariants as kinds
 use Rattle.bas_lex.specs.Kinds.{IsSymbol}
-use Rattle.bas_lex.specs.Cut.{Begins, Longest, Piece, Space, Comment, Symbol, Tailed, begins_comment, AtComment, Fits, behind_symbol, symbol_at}
+use Rattle.bas_lex.specs.Cut.{Begins, Longest, Piece, Space, Comment, Symbol, Tailed, begins_comment, AtComment, Fits, behind_symbol, symbol_at, NoPiece}
 use Rattle.bas_lex.specs.Scan.{Best}
-use Rattle.bas_lex.specs.Next.{NoPiece, TakesPiece}
-use Rattle.bas_lex.proofs.Runs.{same_head, same_fronts}
+use Rattle.bas_lex.specs.Next.{TakesPiece}
+use Rattle.bv_token.proofs.Lists.{same_head, same_fronts}
 use Rattle.bas_lex.proofs.Classes.{class_of_symbol}
 
 -- no symbol is empty
@@ -101,14 +101,6 @@ takes_symbol at text mode mode' list list' front rest a no_comment longest rest_
       mode_is = mode_is;
       added = list_is ∙ (λ i. list ++ (a_is ∙ ap (λ n. symbol_at at mode front.kind n) (sym longest.begins.size_is)) i ∷ []);
     }
-
--- the longest symbol lies within the text
-pub longest_within : (asm : Bool) (text : List ℕ) (kind : SymKind) (size : ℕ) → Longest (IsSymbol asm) text kind size → size ≤ length text
-longest_within asm text kind size l = omega (arith, l.begins.size_is, ap length l.begins.split, length-append l.begins.bytes l.begins.rest)
-
--- all that stands behind a front
-pub all_behind : (n : ℕ) (xs : List ℕ) → take (length xs - n) (drop n xs) ≡ drop n xs
-all_behind n xs = take_all _ (drop n xs) (omega (arith, length-drop n xs))
 
 -- a piece has a byte or more
 pub piece_shortens : (asm : Bool) (piece : Piece) (text rest : List ℕ) → Fits asm piece text rest → length rest < length text

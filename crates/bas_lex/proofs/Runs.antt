@@ -1,30 +1,14 @@
 -- Fronts of lists, and runs of bytes that pass a test.
-use Rattle.std.proofs.Common.{◌≡◌, ℕ, ◌≤◌, Bool, true, false, List, [], ◌∷◌, ◌++◌, length, refl, sym, ap, subst, ◌∙◌, arith, append_assoc, length-append, true≢false, Option, Some, None, MatchOption}
+use Rattle.std.proofs.Common.{◌≡◌, ℕ, ◌≤◌, Bool, true, List, [], ◌∷◌, ◌++◌, length, refl, sym, ap, subst, ◌∙◌, arith, append_assoc, length-append, Option, Some, None, MatchOption}
+use Rattle.std.specs.List.{AllByRecursion}
+use Rattle.std.proofs.lemmas.Bool.{both_ways}
+use Rattle.bv_token.proofs.Lists.{same_head, same_tail, same_fronts}
 use Rattle.bas_lex.specs.Bytes.{Each, NotFirst}
 use Rattle.bas_lex.specs.Scan.{IsRun}
 
-pub same_head : {A : Type 0} (x y : A) (xs ys : List A) → x ∷ xs ≡ y ∷ ys → x ≡ y
-same_head x y xs ys e = cc
-
-pub same_tail : {A : Type 0} (x y : A) (xs ys : List A) → x ∷ xs ≡ y ∷ ys → xs ≡ ys
-same_tail x y xs ys e = cc
-
--- two fronts of one length are the same
-pub same_fronts : (xs ys rest rest' : List ℕ) → length xs ≡ length ys → xs ++ rest ≡ ys ++ rest' → (xs ≡ ys) × (rest ≡ rest')
-same_fronts [] [] rest rest' e same = (refl, same)
-same_fronts [] (y ∷ ys) rest rest' e same = absurd (omega (arith, e))
-same_fronts (x ∷ xs) [] rest rest' e same = absurd (omega (arith, e))
-same_fronts (x ∷ xs) (y ∷ ys) rest rest' e same =
-    let fronts = same_fronts xs ys rest rest' (omega (arith, e)) (same_tail x y _ _ same) in
-    ((λ i. same_head x y _ _ same i ∷ fronts.0 i), fronts.1)
-
--- what passes a test doesn't fail it
-pub passes≢fails : (test : ℕ → Bool) (c : ℕ) → test c ≡ true → test c ≡ false → ⊥
-passes≢fails test c passes fails = true≢false (sym passes ∙ fails)
-
 -- a byte that passes a test stands first
 pub not_first : (test : ℕ → Bool) (text rest : List ℕ) (c : ℕ) → text ≡ c ∷ rest → test c ≡ true → NotFirst test text → ⊥
-not_first test text rest c e passes fails = passes≢fails test c passes (subst (NotFirst test) e fails)
+not_first test text rest c e passes fails = both_ways (test c) (subst (NotFirst test) e fails) passes
 
 -- A run that goes to a byte which fails the test covers every other run.
 pub covers : (test : ℕ → Bool) (run other rest behind : List ℕ) → Each test other → NotFirst test rest → run ++ rest ≡ other ++ behind → (more : List ℕ) × (run ≡ other ++ more) × (behind ≡ more ++ rest)
@@ -38,9 +22,10 @@ pub each_back : (test : ℕ → Bool) (front back : List ℕ) → Each test (fro
 each_back test [] back each = each
 each_back test (c ∷ front) back each = each_back test front back each.1
 
-pub each_join : (test : ℕ → Bool) (front back : List ℕ) → Each test front → Each test back → Each test (front ++ back)
-each_join test [] back each others = others
-each_join test (c ∷ front) back each others = (each.0, each_join test front back each.1 others)
+-- what holds of the elements of two lists holds of those of both together
+pub all_joined : {A : Type 0} (P : A → Type 0) (xs ys : List A) → AllByRecursion P xs → AllByRecursion P ys → AllByRecursion P (xs ++ ys)
+all_joined P [] ys all others = others
+all_joined P (x ∷ xs) ys all others = (all.0, all_joined P xs ys all.1 others)
 
 -- what was read of a run so far
 pub record ReadsRun (test : ℕ → Bool) (text rest : List ℕ) : Type 0 where
@@ -54,7 +39,7 @@ reads_nothing test text = record { run = []; each = tt; split = refl }
 abbrev pub reads_one : (test : ℕ → Bool) (text rest after : List ℕ) (c : ℕ) → rest ≡ c ∷ after → test c ≡ true → ReadsRun test text rest → ReadsRun test text after
 reads_one test text rest after c e passes r = record {
   run = r.run ++ c ∷ [];
-  each = each_join test r.run (c ∷ []) r.each (passes, tt);
+  each = all_joined (λ b. test b ≡ true) r.run (c ∷ []) r.each (passes, tt);
   split = r.split ∙ ap (λ l. r.run ++ l) e ∙ sym (append_assoc r.run (c ∷ []) after);
 }
 

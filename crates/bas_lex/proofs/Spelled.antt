@@ -8,6 +8,7 @@ use Rattle.bas_lex.specs.declared.symbol.SymKind.{SymKind}
 use Rattle.bas_lex.specs.declared.symbol.SymKind.TheVariants as kinds
 use Rattle.bas_lex.specs.Kinds.{IsSymbol}
 use Rattle.bas_lex.specs.Cut.{Piece, Space, Comment, Symbol, Tailed, bytes_of, IsPiece, behind, at_line, Cuts, symbol_at, piece_symbols, symbols_of, Symbols, IsTailed, IsSpelled}
+use Rattle.bas_lex.proofs.Runs.{all_joined}
 use Rattle.bas_lex.proofs.Pieces.{symbol_is}
 
 -- the part of a text between a front and a back
@@ -22,10 +23,6 @@ spelled_at : (text front part back : List ℕ) (from : ℕ) (mode : Mode) (kind 
 spelled_at text front part back from mode kind text_is from_is is =
     let P : List ℕ → Type 0 = λ l. ((asm : Bool) × (rest : List ℕ) × IsSymbol asm kind l rest) ⊎ IsTailed kind l in
     subst P (sym (ap (λ t. slice_range t from (from + length part)) text_is ∙ middle front part back from from_is)) is
-
-all_joined : (P : Sym → Type 0) (xs ys : List Sym) → AllByRecursion P xs → AllByRecursion P ys → AllByRecursion P (xs ++ ys)
-all_joined P [] ys all others = others
-all_joined P (x ∷ xs) ys all others = (all.0, all_joined P xs ys all.1 others)
 
 piece_spelled : (text front next : List ℕ) (from : ℕ) (mode : Mode) (piece : Piece) → text ≡ front ++ (bytes_of piece ++ next) → from ≡ length front → IsPiece mode.asm piece next → AllByRecursion (IsSpelled text) (piece_symbols from mode piece)
 piece_spelled text front next from mode Space text_is from_is is = tt

@@ -7,16 +7,14 @@ use Rattle.bas_lex.specs.Bytes.{NotFirst}
 use Rattle.bas_lex.specs.Kinds.{doubled}
 use Rattle.bas_lex.specs.Cut.{Begins, Longest}
 use Rattle.bas_lex.specs.Scan.{Texts, is_quote, Closes, ClosesLast}
-use Rattle.bas_lex.proofs.Runs.{same_head, same_tail, not_first}
+use Rattle.bv_token.proofs.Lists.{same_head, same_tail}
+use Rattle.bas_lex.proofs.Runs.{not_first}
 
 -- Where a string is closed: at a first quotation mark, behind two of them, or behind another byte.
 data Closing (text : List ℕ) (size : ℕ) : Type 0 where
   Here : (rest : List ℕ) → text ≡ 34 ∷ rest → size ≡ 1 → Closing text size
   BehindTwo : (more : List ℕ) (n : ℕ) → text ≡ 34 ∷ 34 ∷ more → Closes more n → size ≡ 2 + n → Closing text size
   BehindOther : (c : ℕ) (more : List ℕ) (n : ℕ) → text ≡ c ∷ more → c ≢ 34 → Closes more n → size ≡ 1 + n → Closing text size
-
-doubled_one : ℕ → List ℕ
-doubled_one c = if c == 34 then 34 ∷ 34 ∷ [] else c ∷ []
 
 where_closed : (text : List ℕ) (size : ℕ) → Closes text size → Closing text size
 where_closed text size closes = by_contents closes.contents closes.split closes.size_is
@@ -124,9 +122,6 @@ pub record FindsLast (text rest : List ℕ) (last : Option ℕ) : Type 0 where
   pub within : length rest ≤ length text
   pub joins : (x : Option ℕ) → ClosesLast rest x → ClosesLast text (found last (length text - length rest) x)
 
-same_found : (last : Option ℕ) (n m : ℕ) (x : Option ℕ) → n ≡ m → found last n x ≡ found last m x
-same_found last n m x e = ap (λ k. found last k x) e
-
 pub finds_nothing : (text : List ℕ) → FindsLast text text None
 finds_nothing text = record { within = omega arith; joins = joins }
   where
@@ -171,9 +166,6 @@ closes_of after n b =
       split = e ∙ append_assoc (doubled b.is.0) (34 ∷ []) b.rest;
       size_is = omega (arith, b.size_is, ap length b.is.1, length-append (doubled b.is.0) (34 ∷ []));
     }
-
-size_of_text : (after : List ℕ) (n : ℕ) (b : Begins Texts (34 ∷ after) kinds.Text n) → 1 ≤ n
-size_of_text after n b = omega (arith, b.size_is, ap length b.is.1)
 
 pub text_best : (after : List ℕ) (n : ℕ) → ClosesLast after (Some n) → Longest Texts (34 ∷ after) kinds.Text (1 + n)
 text_best after n last = record {

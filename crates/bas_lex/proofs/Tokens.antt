@@ -3,16 +3,16 @@ use Rattle.std.proofs.Common.{◌≡◌, ◌≢◌, ◌⊎◌, inl, inr, ℕ, �
 use Rattle.std.specs.List.{list_all}
 use Rattle.std.proofs.lemmas.Bool.{and_parts, cases_eq, cases_lt}
 use Rattle.bv_token.specs.declared.reference.TheConstants.{LINE_REFERENCE}
-use Rattle.bv_token.specs.declared.tokens.TheConstants.{REM, DATA}
+use Rattle.bv_token.specs.declared.tokens.TheConstants.{REM, DATA, OTHERWISE}
 use Rattle.bv_token.specs.References.{referred}
 use Rattle.bv_token.specs.Tokens.{Pair, pairs, keyword_of_token, keyword_of_pair, keyword_of, begins_pair}
-use Rattle.bv_token.proofs.Computed.{all_below, all_below-at}
+use Rattle.bv_token.proofs.Tables.{before_table}
 use Rattle.bas_lex.specs.declared.symbol.SymKind.{SymKind}
 use Rattle.bas_lex.specs.declared.symbol.SymKind.TheVariants as kinds
 use Rattle.bas_lex.specs.Kinds.{IsSingle, IsPair}
 use Rattle.bas_lex.specs.Cut.{Begins, Longest}
 use Rattle.bas_lex.specs.Scan.{Tokens, LineRefs}
-use Rattle.bas_lex.proofs.Runs.{same_head, same_tail}
+use Rattle.bv_token.proofs.Lists.{same_head, same_tail}
 
 each_begins : (table : List Pair) → list_all (λ p. begins_pair p.first) table ≡ true → (first second : ℕ) → IsSome (keyword_of_pair table first second) → begins_pair first ≡ true
 each_begins [] all first second found = absurd (true≢false (sym found))
@@ -27,9 +27,6 @@ each_begins (p ∷ more) all first second found =
 -- the first byte of a pair of the table begins pairs
 pub pair_begins : (first second : ℕ) → IsSome (keyword_of_pair pairs first second) → begins_pair first ≡ true
 pair_begins first second found = each_begins pairs refl first second found
-
-abbrev has_none : ℕ → Bool
-has_none n = if is_some (keyword_of_token n) then false else true
 
 none_at_198 : is_some (keyword_of_token 198) ≡ false
 unfolding keyword_of_token
@@ -62,26 +59,15 @@ none_of_pairs n begins =
     at : (k : ℕ) → is_some (keyword_of_token k) ≡ false → k ≡ n → is_some (keyword_of_token n) ≡ false
     at k none e = subst (λ m. is_some (keyword_of_token m) ≡ false) e none
 
-abbrev below_127 : Bool
-below_127 = all_below 127 has_none
-
-all_none : below_127 ≡ true
-unfolding keyword_of_token
-all_none = refl
-
 no_reference : is_some (keyword_of_token LINE_REFERENCE) ≡ false
 unfolding keyword_of_token
 no_reference = refl
 
-has_none-true : (o : Bool) → (if o then false else true) ≡ true → o ≡ true → ⊥
-has_none-true true e some = true≢false (sym e)
-has_none-true false e some = true≢false (sym some)
-
--- the byte of a keyword is 127 or above, and doesn't begin a reference
-pub keyword_is_high : (n : ℕ) → IsSome (keyword_of_token n) → (127 ≤ n) × (n ≢ LINE_REFERENCE)
+-- the byte of a keyword isn't below that of OTHERWISE, and doesn't begin a reference
+pub keyword_is_high : (n : ℕ) → IsSome (keyword_of_token n) → (OTHERWISE ≤ n) × (n ≢ LINE_REFERENCE)
 keyword_is_high n some = (
-  elim (cases_lt n 127) [
-    | inl low ↦ absurd (has_none-true (is_some (keyword_of_token n)) (all_below-at 127 has_none all_none n low) some)
+  elim (cases_lt n OTHERWISE) [
+    | inl low ↦ absurd (true≢false (sym some ∙ sym (ap (λ o. is_some o) (before_table n low))))
     | inr high ↦ high
   ],
   λ e. true≢false (sym (subst (λ m. is_some (keyword_of_token m) ≡ true) e some) ∙ no_reference),

@@ -1,7 +1,7 @@
 -- A text is cut in one way at most.
-use Rattle.std.proofs.Common.{◌≡◌, ◌⊎◌, inl, inr, ℕ, Bool, true, false, not, ◌&&◌, ◌||◌, ◌==◌, if◌then◌else◌, List, [], ◌∷◌, ◌++◌, length, refl, sym, ap, subst, ◌∙◌, arith, append-nil, true≢false, eqb-true}
+use Rattle.std.proofs.Common.{◌≡◌, ◌⊎◌, inl, inr, ℕ, Bool, true, false, not, ◌||◌, ◌==◌, if◌then◌else◌, List, [], ◌∷◌, ◌++◌, length, refl, sym, ap, subst, ◌∙◌, arith, append-nil, true≢false, eqb-true}
 use Rattle.std.specs.List.{list_all}
-use Rattle.std.proofs.lemmas.Bool.{or_cases}
+use Rattle.std.proofs.lemmas.Bool.{or_cases, and_right, cond-true, cond-false, false_from_ne_true}
 use Rattle.bv_token.specs.declared.tokens.TheConstants.{REM, DATA}
 use Rattle.bv_token.specs.Tokens.{begins_pair}
 use Rattle.bas_lex.specs.declared.symbol.Mode.{Mode}
@@ -9,8 +9,8 @@ use Rattle.bas_lex.specs.declared.symbol.Sym.{Sym}
 use Rattle.bas_lex.specs.declared.symbol.SymKind.{SymKind}
 use Rattle.bas_lex.specs.declared.symbol.SymKind.TheVariants as kinds
 use Rattle.bas_lex.specs.Kinds.{IsSymbol, signs}
-use Rattle.bas_lex.specs.Cut.{Piece, Space, Comment, Symbol, Tailed, begins_comment, AtComment, Fits, behind, at_line, Cuts, symbols_of, Symbols, Bad}
-use Rattle.bas_lex.proofs.Runs.{same_head, same_tail, same_fronts}
+use Rattle.bas_lex.specs.Cut.{Piece, Space, Comment, Symbol, Tailed, begins_comment, AtComment, Fits, behind, at_line, Cuts, symbols_of, Symbols, NoPiece, Bad}
+use Rattle.bv_token.proofs.Lists.{same_head, same_tail, same_fronts}
 use Rattle.bas_lex.proofs.Tokens.{pair_begins}
 use Rattle.bas_lex.proofs.Classes.{OfSign, OfToken, class_of, of_class, class_of_symbol, at_place}
 use Rattle.bas_lex.proofs.OneKind.{one_kind}
@@ -59,16 +59,6 @@ tag_of (Tailed token tail) = IsTailed
 abbrev tag_at : Bool → ℕ → Tag
 tag_at asm c = if begins_comment asm c then IsComment else if c == 32 then IsSpace else if c == REM || c == DATA then IsTailed else IsOne
 
-off : (asm t : Bool) → t ≡ false → asm && t ≡ false
-off true t e = e
-off false t e = refl
-
-tag_true : {A : Type 0} (t : Bool) (x y : A) → t ≡ true → (if t then x else y) ≡ x
-tag_true t x y e = ap (λ b. if b then x else y) e
-
-tag_false : {A : Type 0} (t : Bool) (x y : A) → t ≡ false → (if t then x else y) ≡ y
-tag_false t x y e = ap (λ b. if b then x else y) e
-
 -- a piece that fits, by the first byte
 record Tagged (asm : Bool) (piece : Piece) (text : List ℕ) : Type 0 where
   first : ℕ
@@ -76,45 +66,34 @@ record Tagged (asm : Bool) (piece : Piece) (text : List ℕ) : Type 0 where
   split : text ≡ first ∷ after
   tag : tag_of piece ≡ tag_at asm first
 
-not_comment : (asm : Bool) (text : List ℕ) (first : ℕ) (after : List ℕ) → text ≡ first ∷ after → (AtComment asm text → ⊥) → begins_comment asm first ≡ false
-not_comment asm text first after e absent = by_test (begins_comment asm first) refl
-  where
-    by_test : (t : Bool) → begins_comment asm first ≡ t → t ≡ false
-    by_test true is = absurd (absent (first, after, e, is))
-    by_test false is = refl
-
-is_false : (t : Bool) → (t ≡ true → ⊥) → t ≡ false
-is_false true absent = absurd (absent refl)
-is_false false absent = refl
-
 tag_symbol : (asm : Bool) (kind : SymKind) (bytes text rest : List ℕ) (first : ℕ) (more rest' : List ℕ) → text ≡ first ∷ more → (AtComment asm text → ⊥) → of_class (class_of first) asm kind (first ∷ rest) rest' → Tagged asm (Symbol kind bytes) text
 tag_symbol asm kind bytes text rest first more rest' split absent is = record {
   first = first;
   after = more;
   split = split;
-  tag = sym (tag_false (begins_comment asm first) _ _ (not_comment asm text first more split absent) ∙ tag_false (first == 32) _ _ no_space ∙ tag_false (first == REM || first == DATA) _ _ no_tailed);
+  tag = sym (cond-false (begins_comment asm first) _ _ (false_from_ne_true (begins_comment asm first) (λ e. absent (first, more, split, e))) ∙ cond-false (first == 32) _ _ no_space ∙ cond-false (first == REM || first == DATA) _ _ no_tailed);
 }
   where
     no_space : (first == 32) ≡ false
-    no_space = is_false (first == 32) (λ e. no_space_symbol asm kind rest rest' (subst (λ n. of_class (class_of n) asm kind (n ∷ rest) rest') (eqb-true first 32 e) is))
+    no_space = false_from_ne_true (first == 32) (λ e. no_space_symbol asm kind rest rest' (subst (λ n. of_class (class_of n) asm kind (n ∷ rest) rest') (eqb-true first 32 e) is))
 
     no_tailed : (first == REM || first == DATA) ≡ false
-    no_tailed = is_false (first == REM || first == DATA) (λ e. by_token (or_cases (first == REM) (first == DATA) e))
+    no_tailed = false_from_ne_true (first == REM || first == DATA) (λ e. by_token (or_cases (first == REM) (first == DATA) e))
       where
         by_token : ((first == REM) ≡ true) ⊎ ((first == DATA) ≡ true) → ⊥
         by_token (inl e) = no_tailed_symbol asm kind REM rest rest' refl (inl refl) (subst (λ n. of_class (class_of n) asm kind (n ∷ rest) rest') (eqb-true first REM e) is)
         by_token (inr e) = no_tailed_symbol asm kind DATA rest rest' refl (inr refl) (subst (λ n. of_class (class_of n) asm kind (n ∷ rest) rest') (eqb-true first DATA e) is)
 
 tagged : (asm : Bool) (piece : Piece) (text rest : List ℕ) → Fits asm piece text rest → Tagged asm piece text
-tagged asm Space text rest fits = record { first = 32; after = rest; split = fits.0; tag = sym (tag_false (begins_comment asm 32) _ _ (off asm false refl)) }
+tagged asm Space text rest fits = record { first = 32; after = rest; split = fits.0; tag = sym (cond-false (begins_comment asm 32) _ _ (and_right asm false refl)) }
 tagged asm (Comment bytes) text rest fits =
     let at = fits.1.0 in
-    record { first = at.0; after = at.1 ++ rest; split = fits.0 ∙ ap (λ l. l ++ rest) at.2; tag = sym (tag_true (begins_comment asm at.0) _ _ at.3) }
+    record { first = at.0; after = at.1 ++ rest; split = fits.0 ∙ ap (λ l. l ++ rest) at.2; tag = sym (cond-true (begins_comment asm at.0) _ _ at.3) }
 tagged asm (Tailed token tail) text rest fits = record { first = token; after = tail ++ rest; split = fits.0; tag = by_token fits.1.0 }
   where
     by_token : ((token ≡ REM) × (asm ≡ false)) ⊎ (token ≡ DATA) → IsTailed ≡ tag_at asm token
     by_token (inl (e, asm_off)) = sym (ap (λ n. tag_at asm n) e ∙ ap (λ a. tag_at a REM) asm_off)
-    by_token (inr e) = sym (ap (λ n. tag_at asm n) e ∙ tag_false (begins_comment asm DATA) _ _ (off asm false refl))
+    by_token (inr e) = sym (ap (λ n. tag_at asm n) e ∙ cond-false (begins_comment asm DATA) _ _ (and_right asm false refl))
 tagged asm (Symbol kind bytes) text rest fits =
     let b = fits.1.1.begins in
     let c = class_of_symbol asm kind b.bytes b.rest b.is in
@@ -162,11 +141,8 @@ same_tags asm (Tailed t a) (Symbol k b) text rest rest' tag f g = cc
 pub one_piece : (asm : Bool) (p q : Piece) (text rest rest' : List ℕ) → Fits asm p text rest → Fits asm q text rest' → (p ≡ q) × (rest ≡ rest')
 one_piece asm p q text rest rest' f g = same_tags asm p q text rest rest' (no_other_tag asm text p q (tagged asm p text rest f) (tagged asm q text rest' g)) f g
 
-abbrev Stuck : Mode → List ℕ → Type 0
-Stuck mode rest = (piece : Piece) (next : List ℕ) → Fits mode.asm piece rest next → ⊥
-
 -- Two cuts of one text that both go as far as pieces begin are the same.
-one_way : (mode mode' : Mode) (text text' : List ℕ) (ps qs : List Piece) (last last' : Mode) (rest rest' : List ℕ) → mode ≡ mode' → text ≡ text' → Cuts mode text ps last rest → Cuts mode' text' qs last' rest' → Stuck last rest → Stuck last' rest' → (ps ≡ qs) × ((last ≡ last') × (rest ≡ rest'))
+one_way : (mode mode' : Mode) (text text' : List ℕ) (ps qs : List Piece) (last last' : Mode) (rest rest' : List ℕ) → mode ≡ mode' → text ≡ text' → Cuts mode text ps last rest → Cuts mode' text' qs last' rest' → NoPiece last.asm rest → NoPiece last'.asm rest' → (ps ≡ qs) × ((last ≡ last') × (rest ≡ rest'))
 one_way mode mode' text text' [] [] last last' rest rest' same_mode same_text f g end end' =
     (refl, (f.0 ∙ same_mode ∙ sym g.0, f.1 ∙ same_text ∙ sym g.1))
 one_way mode mode' text text' [] (q ∷ qs) last last' rest rest' same_mode same_text f g end end' =
@@ -179,12 +155,9 @@ one_way mode mode' text text' (p ∷ ps) (q ∷ qs) last last' rest rest' same_m
     let others = one_way (behind mode p) (behind mode' q) f.0 g.0 ps qs last last' rest rest' (λ i. behind (same_mode i) (same.0 i)) same.1 f.2 g.2 end end' in
     ((λ i. same.0 i ∷ others.0 i), others.1)
 
-nothing_at_end : (mode : Mode) → Stuck mode []
-nothing_at_end mode = no_piece_at_end mode.asm [] refl
-
 pub cut_once : (asm : Bool) (text : List ℕ) (a b : List Sym) (c d : Bool) → Symbols asm text a c → Symbols asm text b d → (a ≡ b) × (c ≡ d)
 cut_once asm text a b c d f g =
-    let same = one_way (at_line asm) (at_line asm) text text f.pieces g.pieces f.last g.last [] [] refl refl f.cut g.cut (nothing_at_end f.last) (nothing_at_end g.last) in
+    let same = one_way (at_line asm) (at_line asm) text text f.pieces g.pieces f.last g.last [] [] refl refl f.cut g.cut (no_piece_at_end f.last.asm [] refl) (no_piece_at_end g.last.asm [] refl) in
     (f.listed ∙ ap (λ ps. symbols_of 0 (at_line asm) ps) same.0 ∙ sym g.listed, f.after ∙ ap (λ (m : Mode). m.asm) same.1.0 ∙ sym g.after)
 
 pub bad_once : (asm : Bool) (text : List ℕ) (a b : ℕ) → Bad asm text a → Bad asm text b → a ≡ b
@@ -194,5 +167,5 @@ bad_once asm text a b f g =
 
 pub never_both : (asm : Bool) (text : List ℕ) (list : List Sym) (after : Bool) (at : ℕ) → Symbols asm text list after → Bad asm text at → ⊥
 never_both asm text list after at f g =
-    let same = one_way (at_line asm) (at_line asm) text text f.pieces g.pieces f.last g.last [] g.rest refl refl f.cut g.cut (nothing_at_end f.last) g.none in
+    let same = one_way (at_line asm) (at_line asm) text text f.pieces g.pieces f.last g.last [] g.rest refl refl f.cut g.cut (no_piece_at_end f.last.asm [] refl) g.none in
     g.some (sym same.1.1)

@@ -58,6 +58,10 @@ IsPiece asm (Tailed token tail) rest = (((token ≡ REM) × (asm ≡ false)) ⊎
 abbrev pub Fits : Bool → Piece → List ℕ → List ℕ → Type 0
 Fits asm piece text rest = (text ≡ bytes_of piece ++ rest) × IsPiece asm piece rest
 
+-- no piece begins the text
+abbrev pub NoPiece : Bool → List ℕ → Type 0
+NoPiece asm text = (piece : Piece) (rest : List ℕ) → Fits asm piece text rest → ⊥
+
 -- How the text goes on behind a sign. `[` turns the assembler on. While it is on, a statement begins behind this `[`
 -- and behind `:`, and `]` turns the assembler off where a statement begins.
 abbrev pub behind_sign : Mode → ℕ → Mode
@@ -138,7 +142,7 @@ pub record Bad (asm : Bool) (text : List ℕ) (at : ℕ) : Type 0 where
   pub cut : Cuts (at_line asm) text pieces last rest
   pub at_is : at + length rest ≡ length text
   pub some : rest ≢ []
-  pub none : (piece : Piece) (next : List ℕ) → Fits last.asm piece rest next → ⊥
+  pub none : NoPiece last.asm rest
 
 -- when each error comes: want of memory is free
 abbrev pub Explains : Bool → List ℕ → LexError → Type 0

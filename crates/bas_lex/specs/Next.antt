@@ -9,11 +9,7 @@ use Rattle.bas_lex.specs.declared.symbol.Mode.{Mode}
 use Rattle.bas_lex.specs.declared.symbol.Sym.{Sym}
 use Rattle.bas_lex.specs.Bytes.{space}
 use Rattle.bas_lex.specs.Kinds.{IsSymbol}
-use Rattle.bas_lex.specs.Cut.{Longest, Piece, AtComment, Fits, behind, piece_symbols}
-
--- no piece begins the text
-abbrev pub NoPiece : Bool → List ℕ → Type 0
-NoPiece asm text = (piece : Piece) (rest : List ℕ) → Fits asm piece text rest → ⊥
+use Rattle.bas_lex.specs.Cut.{Longest, Piece, AtComment, NoPiece, Fits, behind, piece_symbols}
 
 -- what stands first in a text
 abbrev pub IsNext : Bool → List ℕ → Next → Type 0
