@@ -1,22 +1,23 @@
 -- A symbol's first byte tells which kinds it can be of.
-use Rattle.std.proofs.Common.{◌≡◌, ◌≢◌, ◌⊎◌, inl, inr, ℕ, zero, suc, ◌-◌, ◌≤◌, ◌<◌, Bool, true, false, ◌==◌, nat_le, if◌then◌else◌, List, [], ◌∷◌, ◌++◌, slice_get, Option, Some, None, refl, sym, ap, subst, ◌∙◌, arith, true≢false, leb-true, ltb-true, ℤ}
+use Rattle.std.proofs.Common.{◌≡◌, ◌≢◌, ◌⊎◌, inl, inr, ℕ, zero, suc, ◌+◌, ◌-◌, ◌≤◌, ◌<◌, Bool, true, false, ◌==◌, nat_le, if◌then◌else◌, List, [], ◌∷◌, ◌++◌, slice_get, Option, Some, None, refl, sym, ap, subst, ◌∙◌, arith, true≢false, leb-true, ltb-true, ℤ}
 use Rattle.std.specs.List.{list_all}
 use Rattle.std.proofs.lemmas.Bool.{and_parts, cases_eq, cond-true}
 use Rattle.std.proofs.lemmas.Bool.Decides.{nat_tests}
 use Rattle.bv_token.specs.declared.reference.TheConstants.{LINE_REFERENCE}
-use Rattle.bv_token.specs.declared.tokens.TheConstants.{OTHERWISE}
+use Rattle.bv_token.specs.declared.tokens.TheConstants.{OTHERWISE, FN, PROC}
+use Rattle.std.specs.Char.{is_ascii_digit}
+use Rattle.std.specs.Int.{is_in_range}
 use Rattle.bas_lex.specs.declared.front.Front.{Front}
 use Rattle.bas_lex.specs.declared.number.Radix.{Radix}
 use Rattle.bas_lex.specs.declared.number.Radix.TheVariants as radixes
 use Rattle.bas_lex.specs.declared.symbol.SymKind.{SymKind}
 use Rattle.bas_lex.specs.declared.symbol.SymKind.TheVariants as kinds
-use Rattle.bas_lex.specs.declared.token.TheConstants.{FN, PROC}
-use Rattle.bas_lex.specs.Bytes.{is_within, begins_name, Each}
+use Rattle.bas_lex.specs.Bytes.{begins_name, Each, ampersand, at_sign, capital_a, capital_f, digit_0, digit_9, percent_sign, point, quotation_mark, small_a, small_f}
 use Rattle.bas_lex.specs.Kinds.{IsSymbol, IsSingle, IsPair, IsCall, IsNumber, is_digit, signs, IsSign}
 use Rattle.bas_lex.specs.Scan.{Best, Names, SystemNames, Calls, Labels, Numbers, Texts, LineRefs, Tokens, Signs}
 use Rattle.bas_lex.proofs.Fronts.{best_map}
 use Rattle.bv_token.proofs.Lists.{same_head}
-use Rattle.bas_lex.proofs.Tokens.{pair_begins, keyword_is_high}
+use Rattle.bas_lex.proofs.Tokens.{pair_begins, pair_range, keyword_is_high}
 
 -- what can begin with a byte
 pub data Class : Type 0 where
@@ -27,12 +28,12 @@ pub data Class : Type 0 where
 abbrev pub class_of : ℕ → Class
 class_of b =
     if begins_name b then OfName
-    else if is_within 48 57 b then OfNumber radixes.Decimal
-    else if b == 38 then OfNumber radixes.Hexadecimal
-    else if b == 37 then OfNumber radixes.Binary
-    else if b == 34 then OfText
-    else if b == 46 then OfLabel
-    else if b == 64 then OfSystemName
+    else if is_ascii_digit b then OfNumber radixes.Decimal
+    else if b == ampersand then OfNumber radixes.Hexadecimal
+    else if b == percent_sign then OfNumber radixes.Binary
+    else if b == quotation_mark then OfText
+    else if b == point then OfLabel
+    else if b == at_sign then OfSystemName
     else if b == LINE_REFERENCE then OfLineRef
     else if b == FN then OfCall true
     else if b == PROC then OfCall false
@@ -53,14 +54,14 @@ of_class (OfNumber radix) asm = Numbers radix
 pub class_name : (b : ℕ) → begins_name b ≡ true → class_of b ≡ OfName
 class_name b begins = cond-true (begins_name b) _ _ begins
 
-pub class_decimal : (b : ℕ) → 48 ≤ b → b ≤ 57 → class_of b ≡ OfNumber radixes.Decimal
+pub class_decimal : (b : ℕ) → digit_0 ≤ b → b ≤ digit_9 → class_of b ≡ OfNumber radixes.Decimal
 class_decimal b low high = grind (arith, nat_tests)
 
-pub class_token : (b : ℕ) → 127 ≤ b → b ≢ LINE_REFERENCE → b ≢ FN → b ≢ PROC → class_of b ≡ OfToken
+pub class_token : (b : ℕ) → OTHERWISE ≤ b → b ≢ LINE_REFERENCE → b ≢ FN → b ≢ PROC → class_of b ≡ OfToken
 class_token b high not_ref not_fn not_proc = grind (arith, nat_tests)
 
-pub class_sign : (b : ℕ) → begins_name b ≡ false → (b < 48) ⊎ (57 < b) → b ≢ 38 → b ≢ 37 → b ≢ 34 → b ≢ 46 → b ≢ 64 → b < OTHERWISE → class_of b ≡ OfSign
-class_sign b no_name no_digit n38 n37 n34 n46 n64 low = grind (arith, nat_tests)
+pub class_sign : (b : ℕ) → begins_name b ≡ false → (b < digit_0) ⊎ (digit_9 < b) → b ≢ ampersand → b ≢ percent_sign → b ≢ quotation_mark → b ≢ point → b ≢ at_sign → b < OTHERWISE → class_of b ≡ OfSign
+class_sign b no_name no_digit not_ampersand not_percent not_quote not_point not_at low = grind (arith, nat_tests)
 
 -- a byte that begins one of these kinds, by its class
 pub record InClass (asm : Bool) (kind : SymKind) (bytes rest : List ℕ) : Type 0 where
@@ -77,20 +78,20 @@ in_class asm kind bytes rest first more class spelled e is = record {
   is = subst (λ c. of_class c asm kind bytes rest) (sym e) is;
 }
 
-digit_within : (c : ℕ) → is_digit radixes.Decimal c ≡ true → (48 ≤ c) × (c ≤ 57)
-digit_within c passes = by_test (is_within 48 57 c) refl (ltb-true _ _ passes)
+digit_within : (c : ℕ) → is_digit radixes.Decimal c ≡ true → (digit_0 ≤ c) × (c ≤ digit_9)
+digit_within c passes = by_test (is_ascii_digit c) refl (ltb-true _ _ passes)
   where
-    by_test : (t : Bool) → is_within 48 57 c ≡ t → (if t then c - 48 else if is_within 65 70 c then c - 55 else if is_within 97 102 c then c - 87 else 16) < 10 → (48 ≤ c) × (c ≤ 57)
-    by_test true is small = let parts = and_parts (nat_le 48 c) (nat_le c 57) is in (leb-true 48 c parts.0, leb-true c 57 parts.1)
-    by_test false is small = absurd (by_upper (is_within 65 70 c) refl small)
+    by_test : (t : Bool) → is_ascii_digit c ≡ t → (if t then c - digit_0 else if is_in_range capital_a capital_f c then c - capital_a + 10 else if is_in_range small_a small_f c then c - small_a + 10 else 16) < 10 → (digit_0 ≤ c) × (c ≤ digit_9)
+    by_test true is small = let parts = and_parts (nat_le digit_0 c) (nat_le c digit_9) is in (leb-true digit_0 c parts.0, leb-true c digit_9 parts.1)
+    by_test false is small = absurd (by_upper (is_in_range capital_a capital_f c) refl small)
       where
-        by_lower : (t : Bool) → is_within 97 102 c ≡ t → (if t then c - 87 else 16) < 10 → ⊥
-        by_lower true is small = let low = leb-true 97 c (and_parts (nat_le 97 c) (nat_le c 102) is).0 in omega (arith, low, small)
+        by_lower : (t : Bool) → is_in_range small_a small_f c ≡ t → (if t then c - small_a + 10 else 16) < 10 → ⊥
+        by_lower true is small = let low = leb-true small_a c (and_parts (nat_le small_a c) (nat_le c small_f) is).0 in omega (arith, low, small)
         by_lower false is small = omega (arith, small)
 
-        by_upper : (t : Bool) → is_within 65 70 c ≡ t → (if t then c - 55 else if is_within 97 102 c then c - 87 else 16) < 10 → ⊥
-        by_upper true is small = let low = leb-true 65 c (and_parts (nat_le 65 c) (nat_le c 70) is).0 in omega (arith, low, small)
-        by_upper false is small = by_lower (is_within 97 102 c) refl small
+        by_upper : (t : Bool) → is_in_range capital_a capital_f c ≡ t → (if t then c - capital_a + 10 else if is_in_range small_a small_f c then c - small_a + 10 else 16) < 10 → ⊥
+        by_upper true is small = let low = leb-true capital_a c (and_parts (nat_le capital_a c) (nat_le c capital_f) is).0 in omega (arith, low, small)
+        by_upper false is small = by_lower (is_in_range small_a small_f c) refl small
 
 number_class : (asm : Bool) (radix : Radix) (value : ℤ) (bytes rest : List ℕ) → IsNumber radix value bytes rest → InClass asm (kinds.Number value) bytes rest
 number_class asm radixes.Decimal value bytes rest is = by_digits is.digits is.some is.each is.spelled
@@ -99,8 +100,8 @@ number_class asm radixes.Decimal value bytes rest is = by_digits is.digits is.so
     by_digits [] some each spelled = absurd (some refl)
     by_digits (c ∷ digits) some each spelled =
         let within = digit_within c each.0 in in_class asm (kinds.Number value) bytes rest c digits (OfNumber radixes.Decimal) spelled (class_decimal c within.0 within.1) is
-number_class asm radixes.Hexadecimal value bytes rest is = in_class asm (kinds.Number value) bytes rest 38 is.digits (OfNumber radixes.Hexadecimal) is.spelled refl is
-number_class asm radixes.Binary value bytes rest is = in_class asm (kinds.Number value) bytes rest 37 is.digits (OfNumber radixes.Binary) is.spelled refl is
+number_class asm radixes.Hexadecimal value bytes rest is = in_class asm (kinds.Number value) bytes rest ampersand is.digits (OfNumber radixes.Hexadecimal) is.spelled refl is
+number_class asm radixes.Binary value bytes rest is = in_class asm (kinds.Number value) bytes rest percent_sign is.digits (OfNumber radixes.Binary) is.spelled refl is
 
 single_class : (asm : Bool) (n : ℕ) (bytes rest : List ℕ) → IsSingle n bytes → InClass asm (kinds.Token n) bytes rest
 single_class asm n bytes rest is =
@@ -115,11 +116,9 @@ single_class asm n bytes rest is =
 
 pair_class : (asm : Bool) (n : ℕ) (bytes rest : List ℕ) → IsPair n bytes → InClass asm (kinds.Token n) bytes rest
 pair_class asm n bytes rest is =
-    let begins = pair_begins is.first is.second is.keyword in
-    let low = leb-true 198 is.first (and_parts (nat_le 198 is.first) (nat_le is.first 200) begins).0 in
-    let high = leb-true is.first 200 (and_parts (nat_le 198 is.first) (nat_le is.first 200) begins).1 in
+    let range = pair_range is.first (pair_begins is.first is.second is.keyword) in
     in_class asm (kinds.Token n) bytes rest is.first (is.second ∷ []) OfToken is.spelled
-    (class_token is.first (omega (arith, low)) (λ e. omega (arith, low, e)) (λ e. omega (arith, low, e)) (λ e. omega (arith, high, e))) (inr is)
+    (class_token is.first (omega (arith, range.0)) (λ e. omega (arith, range.0, e)) (λ e. omega (arith, range.0, e)) (λ e. omega (arith, range.1, e))) (inr is)
 
 call_class : (asm function bracket : Bool) (bytes rest : List ℕ) → IsCall function bracket bytes → InClass asm (kinds.Call function bracket) bytes rest
 call_class asm true bracket bytes rest is = in_class asm (kinds.Call true bracket) bytes rest FN (is.first ∷ is.more) (OfCall true) is.spelled refl (refl, is)
@@ -167,11 +166,11 @@ class_of_symbol asm (kinds.Token n) bytes rest (inr pair) = pair_class asm n byt
 class_of_symbol asm (kinds.Name suffix bracket) bytes rest (inl plain) =
     in_class asm (kinds.Name suffix bracket) bytes rest plain.first plain.more OfName plain.spelled (class_name plain.first plain.begins) plain
 class_of_symbol asm (kinds.Name suffix bracket) bytes rest (inr system) =
-    in_class asm (kinds.Name suffix bracket) bytes rest 64 (37 ∷ []) OfSystemName system.2 refl system
+    in_class asm (kinds.Name suffix bracket) bytes rest at_sign (percent_sign ∷ []) OfSystemName system.2 refl system
 class_of_symbol asm (kinds.Call function bracket) bytes rest is = call_class asm function bracket bytes rest is
-class_of_symbol asm kinds.Label bytes rest is = in_class asm kinds.Label bytes rest 46 is.1.name OfLabel is.1.spelled refl is
+class_of_symbol asm kinds.Label bytes rest is = in_class asm kinds.Label bytes rest point is.1.name OfLabel is.1.spelled refl is
 class_of_symbol asm (kinds.Number value) bytes rest is = number_class asm is.0 value bytes rest is.1
-class_of_symbol asm kinds.Text bytes rest is = in_class asm kinds.Text bytes rest 34 _ OfText is.1 refl is
+class_of_symbol asm kinds.Text bytes rest is = in_class asm kinds.Text bytes rest quotation_mark _ OfText is.1 refl is
 class_of_symbol asm (kinds.LineRef number) bytes rest is =
     in_class asm (kinds.LineRef number) bytes rest LINE_REFERENCE (is.first ∷ is.second ∷ is.third ∷ []) OfLineRef is.spelled refl is
 class_of_symbol asm (kinds.Mark n) bytes rest is = sign_class asm n bytes rest is

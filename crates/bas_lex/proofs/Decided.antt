@@ -3,7 +3,7 @@ use Rattle.std.proofs.Common.{◌≡◌, ◌≢◌, ◌⊎◌, inl, inr, ℕ, ze
 use Rattle.std.specs.Int.{w32, cast_signed, cast_unsigned}
 use Rattle.std.proofs.lemmas.Bool.{cases_eq, cases_lt, cases_Bool, ne_eqb}
 use Rattle.bv_token.specs.declared.reference.TheConstants.{LINE_REFERENCE}
-use Rattle.bv_token.specs.declared.tokens.TheConstants.{REM, DATA, OTHERWISE}
+use Rattle.bv_token.specs.declared.tokens.TheConstants.{REM, DATA, OTHERWISE, FN, PROC}
 use Rattle.bv_token.specs.Tokens.{begins_pair, keyword_of}
 use Rattle.bv_token.specs.References.{referred}
 use Rattle.bas_lex.specs.declared.front.Front.{Front}
@@ -16,8 +16,7 @@ use Rattle.bas_lex.specs.declared.symbol.Mode.{Mode}
 use Rattle.bas_lex.specs.declared.symbol.Sym.{Sym}
 use Rattle.bas_lex.specs.declared.symbol.SymKind.{SymKind}
 use Rattle.bas_lex.specs.declared.symbol.SymKind.TheVariants as kinds
-use Rattle.bas_lex.specs.declared.token.TheConstants.{FN, PROC}
-use Rattle.bas_lex.specs.Bytes.{begins_name, is_in_name}
+use Rattle.bas_lex.specs.Bytes.{begins_name, is_in_name, ampersand, at_sign, digit_0, digit_9, dollar_sign, open_bracket, percent_sign, point, quotation_mark, space}
 use Rattle.bas_lex.specs.Kinds.{IsSymbol, suffix_bytes, bracket_bytes, call_token, radix_mark, value_bound, is_digit, value_of, signs}
 use Rattle.bas_lex.specs.Cut.{Longest, Piece, Space, Comment, Tailed, begins_comment, AtComment, Fits, behind, behind_symbol, symbol_at, at_line, Cuts, symbols_of, Symbols, Bad, NoPiece}
 use Rattle.bas_lex.specs.Scan.{Best, SystemNames, Calls, Labels, Numbers, Texts, LineRefs, Tokens, Signs, SignsOf, IsRun, is_suffix, SplitsSuffix, SplitsBracket, SplitsPercent, EndsName, EndsLabel, NoLabelName, HasDigits, ClosesLast, longer_sign}
@@ -44,26 +43,26 @@ run_of test (c ∷ text) = by_test (cases_Bool (test c)) (run_of test text)
     by_test (inl passes) more = (more.0, record { run = c ∷ more.1.run; each = (passes, more.1.each); split = ap (λ l. c ∷ l) more.1.split; stops = more.1.stops })
     by_test (inr fails) more = (c ∷ text, record { run = []; each = tt; split = refl; stops = fails })
 
-neither : (c : ℕ) → c ≢ 37 → c ≢ 36 → is_suffix c ≡ false
-neither c n37 n36 = ap (λ t. t || (c == 36)) (ne_eqb c 37 n37) ∙ ne_eqb c 36 n36
+neither : (c : ℕ) → c ≢ percent_sign → c ≢ dollar_sign → is_suffix c ≡ false
+neither c not_percent not_dollar = ap (λ t. t || (c == dollar_sign)) (ne_eqb c percent_sign not_percent) ∙ ne_eqb c dollar_sign not_dollar
 
 suffix_of : (text : List ℕ) → (suffix : ℕ) × (rest : List ℕ) × SplitsSuffix text suffix rest
 suffix_of [] = (0, [], record { is_suffix_byte = inl refl; split = refl; bare = λ _. tt })
 suffix_of (c ∷ text) =
-    elim (cases_eq c 37) [
-      | inl e ↦ (37, text, record { is_suffix_byte = inr (inl refl); split = ap (λ n. n ∷ text) e; bare = λ z. absurd (omega (arith, z)) })
-      | inr n37 ↦ elim (cases_eq c 36) [
-        | inl e ↦ (36, text, record { is_suffix_byte = inr (inr refl); split = ap (λ n. n ∷ text) e; bare = λ z. absurd (omega (arith, z)) })
-        | inr n36 ↦ (0, c ∷ text, record { is_suffix_byte = inl refl; split = refl; bare = λ _. neither c n37 n36 })
+    elim (cases_eq c percent_sign) [
+      | inl e ↦ (percent_sign, text, record { is_suffix_byte = inr (inl refl); split = ap (λ n. n ∷ text) e; bare = λ z. absurd (omega (arith, z)) })
+      | inr not_percent ↦ elim (cases_eq c dollar_sign) [
+        | inl e ↦ (dollar_sign, text, record { is_suffix_byte = inr (inr refl); split = ap (λ n. n ∷ text) e; bare = λ z. absurd (omega (arith, z)) })
+        | inr not_dollar ↦ (0, c ∷ text, record { is_suffix_byte = inl refl; split = refl; bare = λ _. neither c not_percent not_dollar })
       ]
     ]
 
 bracket_of : (text : List ℕ) → (bracket : Bool) × (rest : List ℕ) × SplitsBracket text bracket rest
 bracket_of [] = (false, [], record { split = refl; bare = λ _. tt })
 bracket_of (c ∷ text) =
-    elim (cases_eq c 40) [
+    elim (cases_eq c open_bracket) [
       | inl e ↦ (true, text, record { split = ap (λ n. n ∷ text) e; bare = λ e. absurd (true≢false e) })
-      | inr other ↦ (false, c ∷ text, record { split = refl; bare = λ _. ne_eqb c 40 other })
+      | inr other ↦ (false, c ∷ text, record { split = refl; bare = λ _. ne_eqb c open_bracket other })
     ]
 
 name_end : (text : List ℕ) → (end : NameEnd) × EndsName text end
@@ -90,43 +89,43 @@ call_of function (c ∷ after) =
       | inr fails ↦ (Some (record { kind = kinds.Token (call_token function); size = 1 }), no_call_best function (c ∷ after) fails)
     ]
 
-system_of : (after : List ℕ) → Answer SystemNames (64 ∷ after)
+system_of : (after : List ℕ) → Answer SystemNames (at_sign ∷ after)
 system_of [] = (None, no_system_name [] tt)
 system_of (c ∷ after) =
-    elim (cases_eq c 37) [
-      | inl e ↦ (Some (record { kind = kinds.Name 37 false; size = 2 }), subst (λ n. Longest SystemNames (64 ∷ n ∷ after) (kinds.Name 37 false) 2) (sym e) (system_best after))
-      | inr other ↦ (None, no_system_name (c ∷ after) (ne_eqb c 37 other))
+    elim (cases_eq c percent_sign) [
+      | inl e ↦ (Some (record { kind = kinds.Name percent_sign false; size = 2 }), subst (λ n. Longest SystemNames (at_sign ∷ n ∷ after) (kinds.Name percent_sign false) 2) (sym e) (system_best after))
+      | inr other ↦ (None, no_system_name (c ∷ after) (ne_eqb c percent_sign other))
     ]
 
 percent_of : (text : List ℕ) → (rest : List ℕ) × SplitsPercent text rest
 percent_of [] = ([], inr (refl, tt))
 percent_of (c ∷ text) =
-    elim (cases_eq c 37) [
+    elim (cases_eq c percent_sign) [
       | inl e ↦ (text, inl (ap (λ n. n ∷ text) e))
-      | inr other ↦ (c ∷ text, inr (refl, ne_eqb c 37 other))
+      | inr other ↦ (c ∷ text, inr (refl, ne_eqb c percent_sign other))
     ]
 
 label_name_of : (text : List ℕ) → ((rest : List ℕ) × EndsLabel text rest) ⊎ NoLabelName text
-label_name_of [] = inr (no_label_name [] tt (λ rest e. (let differ : [] ≡ 64 ∷ 37 ∷ rest = e in cc)))
+label_name_of [] = inr (no_label_name [] tt (λ rest e. (let differ : [] ≡ at_sign ∷ percent_sign ∷ rest = e in cc)))
 label_name_of (c ∷ text) =
     elim (cases_Bool (begins_name c)) [
       | inl begins ↦ let run = run_of is_in_name text in let percent = percent_of run.0 in inl (percent.0, label_plain (c ∷ text) c text run.0 percent.0 refl begins run.1 percent.1)
-      | inr fails ↦ elim (cases_eq c 64) [
+      | inr fails ↦ elim (cases_eq c at_sign) [
         | inr other ↦ inr (no_label_name (c ∷ text) fails (λ rest e. other (same_head _ _ _ _ e)))
         | inl at ↦ by_percent at fails text refl
       ]
     ]
   where
-    by_percent : c ≡ 64 → begins_name c ≡ false → (more : List ℕ) → text ≡ more → ((rest : List ℕ) × EndsLabel (c ∷ text) rest) ⊎ NoLabelName (c ∷ text)
-    by_percent at fails [] text_is = inr (no_label_name (c ∷ text) fails (λ rest e. (let differ : [] ≡ 37 ∷ rest = sym text_is ∙ same_tail _ _ _ _ e in cc)))
+    by_percent : c ≡ at_sign → begins_name c ≡ false → (more : List ℕ) → text ≡ more → ((rest : List ℕ) × EndsLabel (c ∷ text) rest) ⊎ NoLabelName (c ∷ text)
+    by_percent at fails [] text_is = inr (no_label_name (c ∷ text) fails (λ rest e. (let differ : [] ≡ percent_sign ∷ rest = sym text_is ∙ same_tail _ _ _ _ e in cc)))
     by_percent at fails (d ∷ more) text_is =
-        elim (cases_eq d 37) [
-          | inl e ↦ inl (more, label_system (c ∷ text) more ((λ i. at i ∷ text_is i) ∙ ap (λ n. 64 ∷ n ∷ more) e))
+        elim (cases_eq d percent_sign) [
+          | inl e ↦ inl (more, label_system (c ∷ text) more ((λ i. at i ∷ text_is i) ∙ ap (λ n. at_sign ∷ n ∷ more) e))
           | inr other ↦ inr (no_label_name (c ∷ text) fails (λ rest e. other (same_head _ _ _ _ (sym text_is ∙ same_tail _ _ _ _ e))))
         ]
 
-label_of : (asm : Bool) (after : List ℕ) → Answer (Labels asm) (46 ∷ after)
-label_of false after = (None, no_label_off (46 ∷ after) false refl)
+label_of : (asm : Bool) (after : List ℕ) → Answer (Labels asm) (point ∷ after)
+label_of false after = (None, no_label_off (point ∷ after) false refl)
 label_of true after =
     elim (label_name_of after) [
       | inl (rest, ends) ↦ (Some (record { kind = kinds.Label; size = 1 + (length after - length rest) }), label_best after rest true refl ends)
@@ -152,10 +151,10 @@ number_of radix text =
       ]
     ]
 
-text_of : (after : List ℕ) → Answer Texts (34 ∷ after)
+text_of : (after : List ℕ) → Answer Texts (quotation_mark ∷ after)
 text_of after = by_last (last_of after)
   where
-    by_last : ((last : Option ℕ) × ClosesLast after last) → Answer Texts (34 ∷ after)
+    by_last : ((last : Option ℕ) × ClosesLast after last) → Answer Texts (quotation_mark ∷ after)
     by_last (None, none) = (None, no_text after none)
     by_last (Some n, last) = (Some (record { kind = kinds.Text; size = 1 + n }), text_best after n last)
 
@@ -202,10 +201,10 @@ module _ (asm : Bool) (text : List ℕ) (first : ℕ) (after : List ℕ) (text_i
   of_text : (class : Class) → class_of first ≡ class → Answer (of_class class asm) text → Answer (IsSymbol asm) text
   of_text class class_is a = (a.0, joined asm text first after class a.0 text_is class_is a.1)
 
-  token_or_sign : first ≢ REM → first ≢ DATA → begins_name first ≡ false → (first < 48) ⊎ (57 < first) → first ≢ 38 → first ≢ 37 → first ≢ 34 → first ≢ 46 → first ≢ 64 → Answer (IsSymbol asm) text
-  token_or_sign not_rem not_data no_name no_digit n38 n37 n34 n46 n64 =
+  token_or_sign : first ≢ REM → first ≢ DATA → begins_name first ≡ false → (first < digit_0) ⊎ (digit_9 < first) → first ≢ ampersand → first ≢ percent_sign → first ≢ quotation_mark → first ≢ point → first ≢ at_sign → Answer (IsSymbol asm) text
+  token_or_sign not_rem not_data no_name no_digit not_ampersand not_percent not_quote not_point not_at =
       elim (cases_lt first OTHERWISE) [
-        | inl low ↦ of_text OfSign (class_sign first no_name no_digit n38 n37 n34 n46 n64 low) (sign_of text)
+        | inl low ↦ of_text OfSign (class_sign first no_name no_digit not_ampersand not_percent not_quote not_point not_at low) (sign_of text)
         | inr high ↦ elim (cases_eq first LINE_REFERENCE) [
           | inl e ↦ known LINE_REFERENCE OfLineRef e refl (line_ref_of after)
           | inr not_ref ↦ elim (cases_eq first FN) [
@@ -218,19 +217,19 @@ module _ (asm : Bool) (text : List ℕ) (first : ℕ) (after : List ℕ) (text_i
         ]
       ]
 
-  by_mark : first ≢ REM → first ≢ DATA → begins_name first ≡ false → (first < 48) ⊎ (57 < first) → Answer (IsSymbol asm) text
+  by_mark : first ≢ REM → first ≢ DATA → begins_name first ≡ false → (first < digit_0) ⊎ (digit_9 < first) → Answer (IsSymbol asm) text
   by_mark not_rem not_data no_name no_digit =
-      elim (cases_eq first 38) [
-        | inl e ↦ known 38 (OfNumber radixes.Hexadecimal) e refl (number_of radixes.Hexadecimal after)
-        | inr n38 ↦ elim (cases_eq first 37) [
-          | inl e ↦ known 37 (OfNumber radixes.Binary) e refl (number_of radixes.Binary after)
-          | inr n37 ↦ elim (cases_eq first 34) [
-            | inl e ↦ known 34 OfText e refl (text_of after)
-            | inr n34 ↦ elim (cases_eq first 46) [
-              | inl e ↦ known 46 OfLabel e refl (label_of asm after)
-              | inr n46 ↦ elim (cases_eq first 64) [
-                | inl e ↦ known 64 OfSystemName e refl (system_of after)
-                | inr n64 ↦ token_or_sign not_rem not_data no_name no_digit n38 n37 n34 n46 n64
+      elim (cases_eq first ampersand) [
+        | inl e ↦ known ampersand (OfNumber radixes.Hexadecimal) e refl (number_of radixes.Hexadecimal after)
+        | inr not_ampersand ↦ elim (cases_eq first percent_sign) [
+          | inl e ↦ known percent_sign (OfNumber radixes.Binary) e refl (number_of radixes.Binary after)
+          | inr not_percent ↦ elim (cases_eq first quotation_mark) [
+            | inl e ↦ known quotation_mark OfText e refl (text_of after)
+            | inr not_quote ↦ elim (cases_eq first point) [
+              | inl e ↦ known point OfLabel e refl (label_of asm after)
+              | inr not_point ↦ elim (cases_eq first at_sign) [
+                | inl e ↦ known at_sign OfSystemName e refl (system_of after)
+                | inr not_at ↦ token_or_sign not_rem not_data no_name no_digit not_ampersand not_percent not_quote not_point not_at
               ]
             ]
           ]
@@ -241,9 +240,9 @@ module _ (asm : Bool) (text : List ℕ) (first : ℕ) (after : List ℕ) (text_i
   best_of not_rem not_data =
       elim (cases_Bool (begins_name first)) [
         | inl begins ↦ let end = name_end after in known first OfName refl (class_name first begins) (Some (record { kind = kinds.Name end.0.suffix end.0.bracket; size = 1 + end.0.size }), name_best first after end.0 begins end.1)
-        | inr no_name ↦ elim (cases_lt first 48) [
+        | inr no_name ↦ elim (cases_lt first digit_0) [
           | inl low ↦ by_mark not_rem not_data no_name (inl low)
-          | inr from_0 ↦ elim (cases_lt 57 first) [
+          | inr from_0 ↦ elim (cases_lt digit_9 first) [
             | inl high ↦ by_mark not_rem not_data no_name (inr high)
             | inr to_9 ↦ of_text (OfNumber radixes.Decimal) (class_decimal first from_0 to_9) (number_of radixes.Decimal text)
           ]
@@ -269,7 +268,7 @@ decide_piece asm [] = inr (no_piece_at_end asm [] refl)
 decide_piece asm (first ∷ after) =
     elim (cases_Bool (begins_comment asm first)) [
       | inl begins ↦ inl (Comment (first ∷ after), [], (sym (append-nil (first ∷ after)), ((first, after, refl, begins), refl)))
-      | inr absent ↦ elim (cases_eq first 32) [
+      | inr absent ↦ elim (cases_eq first space) [
         | inl e ↦ inl (Space, after, (ap (λ n. n ∷ after) e, tt))
         | inr not_space ↦ elim (cases_eq first REM) [
           | inl e ↦ rem_fits asm first after absent e
@@ -281,7 +280,7 @@ decide_piece asm (first ∷ after) =
       ]
     ]
   where
-    by_best : begins_comment asm first ≡ false → first ≢ 32 → first ≢ REM → first ≢ DATA → Answer (IsSymbol asm) (first ∷ after) → Piecewise asm (first ∷ after)
+    by_best : begins_comment asm first ≡ false → first ≢ space → first ≢ REM → first ≢ DATA → Answer (IsSymbol asm) (first ∷ after) → Piecewise asm (first ∷ after)
     by_best absent not_space not_rem not_data (None, none) = inr (no_piece asm (first ∷ after) first after refl absent not_space not_rem not_data none)
     by_best absent not_space not_rem not_data (Some front, best) = symbol_fits asm (first ∷ after) front (not_at_comment asm (first ∷ after) first after refl absent) best
 

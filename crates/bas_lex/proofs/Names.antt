@@ -3,7 +3,7 @@ use Rattle.std.proofs.Common.{◌≡◌, ◌≢◌, ◌⊎◌, inl, inr, ℕ, �
 use Rattle.bas_lex.specs.declared.name.NameEnd.{NameEnd}
 use Rattle.bas_lex.specs.declared.symbol.SymKind.{SymKind}
 use Rattle.bas_lex.specs.declared.symbol.SymKind.TheVariants as kinds
-use Rattle.bas_lex.specs.Bytes.{begins_name, is_in_name, Each, NotFirst}
+use Rattle.bas_lex.specs.Bytes.{begins_name, is_in_name, Each, NotFirst, at_sign, dollar_sign, open_bracket, percent_sign, point}
 use Rattle.bv_token.specs.Tokens.{keyword_of_token}
 use Rattle.bas_lex.specs.Kinds.{IsSuffix, suffix_bytes, bracket_bytes, GoesOn, IsName, call_token, IsSingle}
 use Rattle.bas_lex.specs.Cut.{Begins, Longest}
@@ -16,7 +16,7 @@ bracket_fits : (text rest rest' : List ℕ) (bracket other : Bool) → SplitsBra
 bracket_fits text rest rest' true false splits e = omega (arith, ap length splits.split)
 bracket_fits text rest rest' false false splits e = omega (arith, ap length splits.split)
 bracket_fits text rest rest' true true splits e = omega (arith, ap length splits.split)
-bracket_fits text rest rest' false true splits e = absurd (not_first is_bracket text rest' 40 e refl (splits.bare refl))
+bracket_fits text rest rest' false true splits e = absurd (not_first is_bracket text rest' open_bracket e refl (splits.bare refl))
 
 -- a suffix is taken where it stands
 suffix_fits : (text rest : List ℕ) (suffix other : ℕ) (more : List ℕ) → SplitsSuffix text suffix rest → IsSuffix other → text ≡ suffix_bytes other ++ more → (((other ≡ suffix) × (more ≡ rest)) ⊎ ((suffix_bytes other ≡ []) × (NotFirst is_bracket text × (length rest ≤ length text))))
@@ -26,26 +26,26 @@ suffix_fits text rest suffix other more splits is e = cases is splits.is_suffix_
     cases (inl z) (inl z') =
         inl (z ∙ sym z', sym (e ∙ ap (λ n. suffix_bytes n ++ more) z) ∙ (splits.split ∙ ap (λ n. suffix_bytes n ++ rest) z'))
     cases (inl z) (inr (inl p)) =
-        let whole : text ≡ 37 ∷ rest = splits.split ∙ ap (λ n. suffix_bytes n ++ rest) p in
+        let whole : text ≡ percent_sign ∷ rest = splits.split ∙ ap (λ n. suffix_bytes n ++ rest) p in
         inr (ap suffix_bytes z, (subst (NotFirst is_bracket) (sym whole) refl, omega (arith, ap length whole)))
     cases (inl z) (inr (inr p)) =
-        let whole : text ≡ 36 ∷ rest = splits.split ∙ ap (λ n. suffix_bytes n ++ rest) p in
+        let whole : text ≡ dollar_sign ∷ rest = splits.split ∙ ap (λ n. suffix_bytes n ++ rest) p in
         inr (ap suffix_bytes z, (subst (NotFirst is_bracket) (sym whole) refl, omega (arith, ap length whole)))
     cases (inr (inl p)) (inl z) =
-        absurd (not_first is_suffix text more 37 (e ∙ ap (λ n. suffix_bytes n ++ more) p) refl (splits.bare z))
+        absurd (not_first is_suffix text more percent_sign (e ∙ ap (λ n. suffix_bytes n ++ more) p) refl (splits.bare z))
     cases (inr (inr p)) (inl z) =
-        absurd (not_first is_suffix text more 36 (e ∙ ap (λ n. suffix_bytes n ++ more) p) refl (splits.bare z))
+        absurd (not_first is_suffix text more dollar_sign (e ∙ ap (λ n. suffix_bytes n ++ more) p) refl (splits.bare z))
     cases (inr (inl p)) (inr (inl q)) =
-        let both : 37 ∷ more ≡ 37 ∷ rest = sym (e ∙ ap (λ n. suffix_bytes n ++ more) p) ∙ (splits.split ∙ ap (λ n. suffix_bytes n ++ rest) q) in
+        let both : percent_sign ∷ more ≡ percent_sign ∷ rest = sym (e ∙ ap (λ n. suffix_bytes n ++ more) p) ∙ (splits.split ∙ ap (λ n. suffix_bytes n ++ rest) q) in
         inl (p ∙ sym q, same_tail _ _ _ _ both)
     cases (inr (inr p)) (inr (inr q)) =
-        let both : 36 ∷ more ≡ 36 ∷ rest = sym (e ∙ ap (λ n. suffix_bytes n ++ more) p) ∙ (splits.split ∙ ap (λ n. suffix_bytes n ++ rest) q) in
+        let both : dollar_sign ∷ more ≡ dollar_sign ∷ rest = sym (e ∙ ap (λ n. suffix_bytes n ++ more) p) ∙ (splits.split ∙ ap (λ n. suffix_bytes n ++ rest) q) in
         inl (p ∙ sym q, same_tail _ _ _ _ both)
     cases (inr (inl p)) (inr (inr q)) =
-        let both : 37 ∷ more ≡ 36 ∷ rest = sym (e ∙ ap (λ n. suffix_bytes n ++ more) p) ∙ (splits.split ∙ ap (λ n. suffix_bytes n ++ rest) q) in
+        let both : percent_sign ∷ more ≡ dollar_sign ∷ rest = sym (e ∙ ap (λ n. suffix_bytes n ++ more) p) ∙ (splits.split ∙ ap (λ n. suffix_bytes n ++ rest) q) in
         absurd (let heads = same_head _ _ _ _ both in omega (arith, heads))
     cases (inr (inr p)) (inr (inl q)) =
-        let both : 36 ∷ more ≡ 37 ∷ rest = sym (e ∙ ap (λ n. suffix_bytes n ++ more) p) ∙ (splits.split ∙ ap (λ n. suffix_bytes n ++ rest) q) in
+        let both : dollar_sign ∷ more ≡ percent_sign ∷ rest = sym (e ∙ ap (λ n. suffix_bytes n ++ more) p) ∙ (splits.split ∙ ap (λ n. suffix_bytes n ++ rest) q) in
         absurd (let heads = same_head _ _ _ _ both in omega (arith, heads))
 
 -- a suffix and a bracket, where both are taken that stand there
@@ -62,11 +62,11 @@ both_fit text behind_suffix rest suffix other bracket with rest' s b is e =
     whole = e ∙ append_assoc (suffix_bytes other) (bracket_bytes with) rest'
 
     no_bracket : (w : Bool) → text ≡ suffix_bytes other ++ (bracket_bytes w ++ rest') → (suffix_bytes other ≡ []) × (NotFirst is_bracket text × (length behind_suffix ≤ length text)) → length (suffix_bytes other ++ bracket_bytes w) + length rest ≤ length text
-    no_bracket true e none = absurd (not_first is_bracket text rest' 40 (e ∙ ap (λ l. l ++ 40 ∷ rest') none.0) refl none.1.0)
+    no_bracket true e none = absurd (not_first is_bracket text rest' open_bracket (e ∙ ap (λ l. l ++ open_bracket ∷ rest') none.0) refl none.1.0)
     no_bracket false e none = omega (arith, none.1.1, ap length none.0, length-append (suffix_bytes other) [], ap length b.split, length-append (bracket_bytes bracket) rest)
 
 no_letter_first : (suffix : ℕ) (bracket : Bool) (rest : List ℕ) → IsSuffix suffix → NotFirst is_in_name ((suffix_bytes suffix ++ bracket_bytes bracket) ++ rest) ⊎ (suffix_bytes suffix ++ bracket_bytes bracket ≡ [])
-no_letter_first suffix true rest (inl z) = inl (subst (λ n. NotFirst is_in_name ((suffix_bytes n ++ 40 ∷ []) ++ rest)) (sym z) refl)
+no_letter_first suffix true rest (inl z) = inl (subst (λ n. NotFirst is_in_name ((suffix_bytes n ++ open_bracket ∷ []) ++ rest)) (sym z) refl)
 no_letter_first suffix false rest (inl z) = inr (ap (λ n. suffix_bytes n ++ []) z)
 no_letter_first suffix bracket rest (inr (inl p)) = inl (subst (λ n. NotFirst is_in_name ((suffix_bytes n ++ bracket_bytes bracket) ++ rest)) (sym p) refl)
 no_letter_first suffix bracket rest (inr (inr p)) = inl (subst (λ n. NotFirst is_in_name ((suffix_bytes n ++ bracket_bytes bracket) ++ rest)) (sym p) refl)
@@ -170,23 +170,23 @@ no_call_best function after none = record {
     longest (kinds.Token t) n b = omega (arith, b.size_is, ap length b.is.spelled)
     longest kind n b = absurd b.is
 
-pub system_best : (after : List ℕ) → Longest SystemNames (64 ∷ 37 ∷ after) (kinds.Name 37 false) 2
+pub system_best : (after : List ℕ) → Longest SystemNames (at_sign ∷ percent_sign ∷ after) (kinds.Name percent_sign false) 2
 system_best after = record {
-  begins = record { bytes = 64 ∷ 37 ∷ []; rest = after; split = refl; size_is = refl; is = (refl, refl, refl) };
+  begins = record { bytes = at_sign ∷ percent_sign ∷ []; rest = after; split = refl; size_is = refl; is = (refl, refl, refl) };
   longest = longest;
 }
   where
-    longest : (other : SymKind) (n : ℕ) → Begins SystemNames (64 ∷ 37 ∷ after) other n → n ≤ 2
+    longest : (other : SymKind) (n : ℕ) → Begins SystemNames (at_sign ∷ percent_sign ∷ after) other n → n ≤ 2
     longest (kinds.Name suffix bracket) n b = omega (arith, b.size_is, ap length b.is.2)
     longest kind n b = absurd b.is
 
-pub no_system_name : (after : List ℕ) → NotFirst is_percent after → (kind : SymKind) (n : ℕ) → Begins SystemNames (64 ∷ after) kind n → ⊥
+pub no_system_name : (after : List ℕ) → NotFirst is_percent after → (kind : SymKind) (n : ℕ) → Begins SystemNames (at_sign ∷ after) kind n → ⊥
 no_system_name after none (kinds.Name suffix bracket) n b =
-    not_first is_percent after b.rest 37 (same_tail _ _ _ _ (b.split ∙ ap (λ l. l ++ b.rest) b.is.2)) refl none
+    not_first is_percent after b.rest percent_sign (same_tail _ _ _ _ (b.split ∙ ap (λ l. l ++ b.rest) b.is.2)) refl none
 no_system_name after none kind n b = absurd b.is
 
 -- a label's name, by the suffix that it may have
-label_fits : (first : ℕ) (after behind rest : List ℕ) (run : IsRun is_in_name after behind) → SplitsPercent behind rest → (suffix : ℕ) (bytes rest' : List ℕ) → suffix ≢ 36 → GoesOn suffix false bytes → after ≡ bytes ++ rest' → length bytes + length rest ≤ length after
+label_fits : (first : ℕ) (after behind rest : List ℕ) (run : IsRun is_in_name after behind) → SplitsPercent behind rest → (suffix : ℕ) (bytes rest' : List ℕ) → suffix ≢ dollar_sign → GoesOn suffix false bytes → after ≡ bytes ++ rest' → length bytes + length rest ≤ length after
 label_fits first after behind rest run percent suffix bytes rest' no_string goes e = by_more covered.0 covered.1 covered.2
   where
     covered : (more : List ℕ) × (run.run ≡ goes.letters ++ more) × ((suffix_bytes suffix ++ []) ++ rest' ≡ more ++ behind)
@@ -209,19 +209,19 @@ label_fits first after behind rest run percent suffix bytes rest' no_string goes
     by_suffix [] covers_run back (inr (inl p)) (inl taken) =
         omega (arith, ap length taken, sizes, size_of_bytes, ap (λ n. length (suffix_bytes n ++ [])) p, ap length covers_run, length-append goes.letters [])
     by_suffix [] covers_run back (inr (inl p)) (inr none) =
-        absurd (not_first is_percent behind rest' 37 (sym back ∙ ap (λ n. (suffix_bytes n ++ []) ++ rest') p) refl none.1)
+        absurd (not_first is_percent behind rest' percent_sign (sym back ∙ ap (λ n. (suffix_bytes n ++ []) ++ rest') p) refl none.1)
     by_suffix (m ∷ more) covers_run back (inr (inl p)) q =
-        let m_is : 37 ≡ m = same_head _ _ _ _ (sym (ap (λ n. (suffix_bytes n ++ []) ++ rest') p) ∙ back) in
+        let m_is : percent_sign ≡ m = same_head _ _ _ _ (sym (ap (λ n. (suffix_bytes n ++ []) ++ rest') p) ∙ back) in
         let passes : is_in_name m ≡ true = (each_back is_in_name goes.letters (m ∷ more) (subst (Each is_in_name) covers_run run.each)).0 in
         absurd (true≢false (sym passes ∙ sym (ap is_in_name m_is)))
 
     by_more : (more : List ℕ) → run.run ≡ goes.letters ++ more → (suffix_bytes suffix ++ []) ++ rest' ≡ more ++ behind → length bytes + length rest ≤ length after
     by_more more covers_run back = by_suffix more covers_run back goes.is_suffix percent
 
-is_not_system : (first : ℕ) → begins_name first ≡ true → first ≡ 64 → ⊥
+is_not_system : (first : ℕ) → begins_name first ≡ true → first ≡ at_sign → ⊥
 is_not_system first begins e = true≢false (sym begins ∙ ap begins_name e)
 
-label_plain_longest : (first : ℕ) (after behind rest : List ℕ) → begins_name first ≡ true → IsRun is_in_name after behind → SplitsPercent behind rest → (other rest' : List ℕ) (s : ℕ) → s ≢ 36 → IsName s false other → first ∷ after ≡ other ++ rest' → length other + length rest ≤ 1 + length after
+label_plain_longest : (first : ℕ) (after behind rest : List ℕ) → begins_name first ≡ true → IsRun is_in_name after behind → SplitsPercent behind rest → (other rest' : List ℕ) (s : ℕ) → s ≢ dollar_sign → IsName s false other → first ∷ after ≡ other ++ rest' → length other + length rest ≤ 1 + length after
 label_plain_longest first after behind rest begins run percent other rest' s no_string (inl plain) e =
     let fits = label_fits first after behind rest run percent s plain.more rest' no_string plain.goes_on (same_tail _ _ _ _ (e ∙ ap (λ l. l ++ rest') plain.spelled)) in
     omega (arith, fits, ap length plain.spelled)
@@ -232,18 +232,18 @@ label_plain_longest first after behind rest begins run percent other rest' s no_
 pub label_plain : (text : List ℕ) (first : ℕ) (after behind rest : List ℕ) → text ≡ first ∷ after → begins_name first ≡ true → IsRun is_in_name after behind → SplitsPercent behind rest → EndsLabel text rest
 label_plain text first after behind rest text_is begins run percent = by_percent percent
   where
-    longest : (name : List ℕ) → length name + length rest ≡ 1 + length after → (other rest' : List ℕ) (s : ℕ) → s ≢ 36 → IsName s false other → text ≡ other ++ rest' → length other ≤ length name
+    longest : (name : List ℕ) → length name + length rest ≡ 1 + length after → (other rest' : List ℕ) (s : ℕ) → s ≢ dollar_sign → IsName s false other → text ≡ other ++ rest' → length other ≤ length name
     longest name size other rest' s no_string is e =
         let most = label_plain_longest first after behind rest begins run percent other rest' s no_string is (sym text_is ∙ e) in omega (arith, most, size)
 
     by_percent : SplitsPercent behind rest → EndsLabel text rest
     by_percent (inl taken) = record {
-      name = first ∷ (run.run ++ 37 ∷ []);
-      suffix = 37;
+      name = first ∷ (run.run ++ percent_sign ∷ []);
+      suffix = percent_sign;
       no_string = λ e. omega (arith, e);
-      is_name = inl (record { first = first; more = run.run ++ 37 ∷ []; begins = begins; goes_on = record { letters = run.run; each = run.each; is_suffix = inr (inl refl); spelled = refl }; spelled = refl });
-      split = text_is ∙ ap (λ l. first ∷ l) (run.split ∙ ap (λ l. run.run ++ l) taken ∙ sym (append_assoc run.run (37 ∷ []) rest));
-      longest = longest (first ∷ (run.run ++ 37 ∷ [])) (omega (arith, ap length run.split, length-append run.run behind, length-append run.run (37 ∷ []), ap length taken));
+      is_name = inl (record { first = first; more = run.run ++ percent_sign ∷ []; begins = begins; goes_on = record { letters = run.run; each = run.each; is_suffix = inr (inl refl); spelled = refl }; spelled = refl });
+      split = text_is ∙ ap (λ l. first ∷ l) (run.split ∙ ap (λ l. run.run ++ l) taken ∙ sym (append_assoc run.run (percent_sign ∷ []) rest));
+      longest = longest (first ∷ (run.run ++ percent_sign ∷ [])) (omega (arith, ap length run.split, length-append run.run behind, length-append run.run (percent_sign ∷ []), ap length taken));
     }
     by_percent (inr none) = record {
       name = first ∷ (run.run ++ []);
@@ -255,46 +255,46 @@ label_plain text first after behind rest text_is begins run percent = by_percent
     }
 
 -- the label's name `@%`
-pub label_system : (text rest : List ℕ) → text ≡ 64 ∷ 37 ∷ rest → EndsLabel text rest
+pub label_system : (text rest : List ℕ) → text ≡ at_sign ∷ percent_sign ∷ rest → EndsLabel text rest
 label_system text rest e = record {
-  name = 64 ∷ 37 ∷ [];
-  suffix = 37;
+  name = at_sign ∷ percent_sign ∷ [];
+  suffix = percent_sign;
   no_string = λ p. omega (arith, p);
   is_name = inr (refl, refl, refl);
   split = e;
   longest = longest;
 }
   where
-    longest : (other rest' : List ℕ) (s : ℕ) → s ≢ 36 → IsName s false other → text ≡ other ++ rest' → length other ≤ 2
+    longest : (other rest' : List ℕ) (s : ℕ) → s ≢ dollar_sign → IsName s false other → text ≡ other ++ rest' → length other ≤ 2
     longest other rest' s no_string (inl plain) same =
         absurd (is_not_system plain.first plain.begins (sym (same_head _ _ _ _ (sym e ∙ same ∙ ap (λ l. l ++ rest') plain.spelled))))
     longest other rest' s no_string (inr system) same = omega (arith, ap length system.2)
 
-pub no_label_name : (text : List ℕ) → NotFirst begins_name text → ((rest : List ℕ) → text ≡ 64 ∷ 37 ∷ rest → ⊥) → NoLabelName text
+pub no_label_name : (text : List ℕ) → NotFirst begins_name text → ((rest : List ℕ) → text ≡ at_sign ∷ percent_sign ∷ rest → ⊥) → NoLabelName text
 no_label_name text no_letter no_system name rest suffix (inl plain) e =
     not_first begins_name text _ plain.first (e ∙ ap (λ l. l ++ rest) plain.spelled) plain.begins no_letter
 no_label_name text no_letter no_system name rest suffix (inr system) e = no_system rest (e ∙ ap (λ l. l ++ rest) system.2)
 
-pub label_best : (after rest : List ℕ) (asm : Bool) → asm ≡ true → EndsLabel after rest → Longest (Labels asm) (46 ∷ after) kinds.Label (1 + (length after - length rest))
+pub label_best : (after rest : List ℕ) (asm : Bool) → asm ≡ true → EndsLabel after rest → Longest (Labels asm) (point ∷ after) kinds.Label (1 + (length after - length rest))
 label_best after rest asm on ends = record {
   begins = record {
-    bytes = 46 ∷ ends.name;
+    bytes = point ∷ ends.name;
     rest = rest;
-    split = ap (λ l. 46 ∷ l) ends.split;
+    split = ap (λ l. point ∷ l) ends.split;
     size_is = omega (arith, ap length ends.split, length-append ends.name rest);
     is = (on, record { name = ends.name; suffix = ends.suffix; no_string = ends.no_string; is_name = ends.is_name; spelled = refl });
   };
   longest = longest;
 }
   where
-    longest : (other : SymKind) (n : ℕ) → Begins (Labels asm) (46 ∷ after) other n → n ≤ 1 + (length after - length rest)
+    longest : (other : SymKind) (n : ℕ) → Begins (Labels asm) (point ∷ after) other n → n ≤ 1 + (length after - length rest)
     longest kinds.Label n b =
         let label = b.is.1 in
         let most = ends.longest label.name b.rest label.suffix label.no_string label.is_name (same_tail _ _ _ _ (b.split ∙ ap (λ l. l ++ b.rest) label.spelled)) in
         omega (arith, most, b.size_is, ap length label.spelled, ap length ends.split, length-append ends.name rest)
     longest kind n b = absurd b.is
 
-pub no_label : (after : List ℕ) (asm : Bool) → NoLabelName after → (kind : SymKind) (n : ℕ) → Begins (Labels asm) (46 ∷ after) kind n → ⊥
+pub no_label : (after : List ℕ) (asm : Bool) → NoLabelName after → (kind : SymKind) (n : ℕ) → Begins (Labels asm) (point ∷ after) kind n → ⊥
 no_label after asm none kinds.Label n b =
     let label = b.is.1 in none label.name b.rest label.suffix label.is_name (same_tail _ _ _ _ (b.split ∙ ap (λ l. l ++ b.rest) label.spelled))
 no_label after asm none kind n b = absurd b.is

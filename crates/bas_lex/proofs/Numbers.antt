@@ -51,7 +51,7 @@ digits_read radix text rest digits r stops count = record {
   count = omega (arith, count, ap length r.reads.split, length-append r.reads.run rest);
 }
 
-below_cap : (radix : Radix) (n : ℕ) → n < value_bound radix → n < 4294967296
+below_cap : (radix : Radix) (n : ℕ) → n < value_bound radix → n < VALUE_CAP
 below_cap radixes.Decimal n small = omega (arith, small)
 below_cap radixes.Hexadecimal n small = small
 below_cap radixes.Binary n small = small

@@ -9,7 +9,7 @@ use Rattle.bv_token.specs.References.{referred}
 use Rattle.bas_lex.specs.declared.number.Radix.{Radix}
 use Rattle.bas_lex.specs.declared.symbol.SymKind.{SymKind}
 use Rattle.bas_lex.specs.declared.symbol.SymKind.TheVariants as kinds
-use Rattle.bas_lex.specs.Bytes.{is_in_name, NotFirst}
+use Rattle.bas_lex.specs.Bytes.{is_in_name, NotFirst, open_bracket}
 use Rattle.bas_lex.specs.Kinds.{IsSymbol, IsSingle, IsPair, IsSuffix, suffix_bytes, bracket_bytes, GoesOn, IsPlainName, IsCall, IsNumber, IsLineRef, radix_mark, value_of, signs}
 use Rattle.bv_token.proofs.Lists.{same_head, same_tail}
 use Rattle.bas_lex.proofs.Runs.{same_runs}
@@ -18,29 +18,29 @@ use Rattle.bas_lex.proofs.Classes.{Class, OfName, OfSystemName, OfText, OfLabel,
 -- the suffix and the bracket of what stands behind the letters
 abbrev suffix_in : List ℕ → ℕ
 suffix_in [] = 0
-suffix_in (c ∷ more) = if c == 40 then 0 else c
+suffix_in (c ∷ more) = if c == open_bracket then 0 else c
 
 abbrev bracket_in : List ℕ → Bool
 bracket_in [] = false
-bracket_in (c ∷ []) = c == 40
-bracket_in (c ∷ d ∷ more) = d == 40
+bracket_in (c ∷ []) = c == open_bracket
+bracket_in (c ∷ d ∷ more) = d == open_bracket
 
 suffix_is : (suffix : ℕ) (bracket : Bool) → IsSuffix suffix → suffix_in (suffix_bytes suffix ++ bracket_bytes bracket) ≡ suffix
-suffix_is suffix true (inl e) = subst (λ n. suffix_in (suffix_bytes n ++ 40 ∷ []) ≡ n) (sym e) refl
+suffix_is suffix true (inl e) = subst (λ n. suffix_in (suffix_bytes n ++ open_bracket ∷ []) ≡ n) (sym e) refl
 suffix_is suffix false (inl e) = subst (λ n. suffix_in (suffix_bytes n ++ []) ≡ n) (sym e) refl
 suffix_is suffix bracket (inr (inl e)) = subst (λ n. suffix_in (suffix_bytes n ++ bracket_bytes bracket) ≡ n) (sym e) refl
 suffix_is suffix bracket (inr (inr e)) = subst (λ n. suffix_in (suffix_bytes n ++ bracket_bytes bracket) ≡ n) (sym e) refl
 
 bracket_is : (suffix : ℕ) (bracket : Bool) → IsSuffix suffix → bracket_in (suffix_bytes suffix ++ bracket_bytes bracket) ≡ bracket
-bracket_is suffix true (inl e) = ap (λ n. bracket_in (suffix_bytes n ++ 40 ∷ [])) e
+bracket_is suffix true (inl e) = ap (λ n. bracket_in (suffix_bytes n ++ open_bracket ∷ [])) e
 bracket_is suffix false (inl e) = ap (λ n. bracket_in (suffix_bytes n ++ [])) e
-bracket_is suffix true (inr (inl e)) = ap (λ n. bracket_in (suffix_bytes n ++ 40 ∷ [])) e
+bracket_is suffix true (inr (inl e)) = ap (λ n. bracket_in (suffix_bytes n ++ open_bracket ∷ [])) e
 bracket_is suffix false (inr (inl e)) = ap (λ n. bracket_in (suffix_bytes n ++ [])) e
-bracket_is suffix true (inr (inr e)) = ap (λ n. bracket_in (suffix_bytes n ++ 40 ∷ [])) e
+bracket_is suffix true (inr (inr e)) = ap (λ n. bracket_in (suffix_bytes n ++ open_bracket ∷ [])) e
 bracket_is suffix false (inr (inr e)) = ap (λ n. bracket_in (suffix_bytes n ++ [])) e
 
 no_letter : (suffix : ℕ) (bracket : Bool) → IsSuffix suffix → NotFirst is_in_name (suffix_bytes suffix ++ bracket_bytes bracket)
-no_letter suffix true (inl e) = subst (λ n. NotFirst is_in_name (suffix_bytes n ++ 40 ∷ [])) (sym e) refl
+no_letter suffix true (inl e) = subst (λ n. NotFirst is_in_name (suffix_bytes n ++ open_bracket ∷ [])) (sym e) refl
 no_letter suffix false (inl e) = subst (λ n. NotFirst is_in_name (suffix_bytes n ++ [])) (sym e) tt
 no_letter suffix bracket (inr (inl e)) = subst (λ n. NotFirst is_in_name (suffix_bytes n ++ bracket_bytes bracket)) (sym e) refl
 no_letter suffix bracket (inr (inr e)) = subst (λ n. NotFirst is_in_name (suffix_bytes n ++ bracket_bytes bracket)) (sym e) refl

@@ -2,6 +2,7 @@
 use Rattle.std.proofs.Common.{◌≡◌, ◌≢◌, ◌⊎◌, inl, inr, ℕ, suc, ◌+◌, ◌<◌, Bool, false, List, [], ◌∷◌, ◌++◌, length, drop, None, refl, sym, ap, subst, ◌∙◌, arith, append-nil, length-append, true≢false}
 use Rattle.std.proofs.Math.Seq.{drop-append_seam}
 use Rattle.bv_token.specs.declared.tokens.TheConstants.{REM, DATA}
+use Rattle.bas_lex.specs.Bytes.{space}
 use Rattle.bas_lex.specs.declared.front.Front.{Front}
 use Rattle.bas_lex.specs.declared.symbol.Mode.{Mode}
 use Rattle.bas_lex.specs.declared.symbol.Sym.{Sym}
@@ -21,7 +22,7 @@ no_empty_symbol asm kind bytes rest is e =
 
 -- nothing begins the empty text
 pub no_piece_at_end : (asm : Bool) (text : List ℕ) → text ≡ [] → NoPiece asm text
-no_piece_at_end asm text empty Space rest fits = let differ : [] ≡ 32 ∷ rest = sym empty ∙ fits.0 in cc
+no_piece_at_end asm text empty Space rest fits = let differ : [] ≡ space ∷ rest = sym empty ∙ fits.0 in cc
 no_piece_at_end asm text empty (Tailed token tail) rest fits = let differ : [] ≡ token ∷ (tail ++ rest) = sym empty ∙ fits.0 in cc
 no_piece_at_end asm text empty (Comment bytes) rest fits =
     let comment = fits.1.0 in
@@ -36,7 +37,7 @@ no_piece_at_end asm text empty (Symbol kind bytes) rest fits =
     no_front (x ∷ xs) ys e = absurd (let differ : x ∷ (xs ++ ys) ≡ [] = e in cc)
 
 -- nothing begins a text where no symbol does, and its first byte begins nothing else
-pub no_piece : (asm : Bool) (text : List ℕ) (first : ℕ) (after : List ℕ) → text ≡ first ∷ after → begins_comment asm first ≡ false → first ≢ 32 → first ≢ REM → first ≢ DATA → Best (IsSymbol asm) text None → NoPiece asm text
+pub no_piece : (asm : Bool) (text : List ℕ) (first : ℕ) (after : List ℕ) → text ≡ first ∷ after → begins_comment asm first ≡ false → first ≢ space → first ≢ REM → first ≢ DATA → Best (IsSymbol asm) text None → NoPiece asm text
 no_piece asm text first after text_is no_comment no_space not_rem not_data none Space rest fits = no_space (same_head _ _ _ _ (sym text_is ∙ fits.0))
 no_piece asm text first after text_is no_comment no_space not_rem not_data none (Tailed token tail) rest fits =
     by_token fits.1.0

@@ -3,7 +3,7 @@ use Rattle.std.proofs.Common.{◌≡◌, ◌≢◌, ◌⊎◌, inl, inr, ℕ, �
 use Rattle.std.specs.List.{list_all}
 use Rattle.std.proofs.lemmas.Bool.{and_parts, cases_eq, cases_lt}
 use Rattle.bv_token.specs.declared.reference.TheConstants.{LINE_REFERENCE}
-use Rattle.bv_token.specs.declared.tokens.TheConstants.{REM, DATA, OTHERWISE}
+use Rattle.bv_token.specs.declared.tokens.TheConstants.{REM, DATA, OTHERWISE, PAIR_FIRST, PAIR_LAST}
 use Rattle.bv_token.specs.References.{referred}
 use Rattle.bv_token.specs.Tokens.{Pair, pairs, keyword_of_token, keyword_of_pair, keyword_of, begins_pair}
 use Rattle.bv_token.proofs.Tables.{before_table}
@@ -24,37 +24,39 @@ each_begins (p ∷ more) all first second found =
     cases true is found here others = subst (λ n. begins_pair n ≡ true) (eqb-true p.first first (and_parts (p.first == first) (p.second == second) is).0) here
     cases false is found here others = others found
 
+-- the bytes that begin pairs
+pub pair_range : (n : ℕ) → begins_pair n ≡ true → (PAIR_FIRST ≤ n) × (n ≤ PAIR_LAST)
+pair_range n begins = let parts = and_parts (nat_le PAIR_FIRST n) (nat_le n PAIR_LAST) begins in (leb-true PAIR_FIRST n parts.0, leb-true n PAIR_LAST parts.1)
+
 -- the first byte of a pair of the table begins pairs
 pub pair_begins : (first second : ℕ) → IsSome (keyword_of_pair pairs first second) → begins_pair first ≡ true
 pair_begins first second found = each_begins pairs refl first second found
 
-none_at_198 : is_some (keyword_of_token 198) ≡ false
+none_at_first : is_some (keyword_of_token PAIR_FIRST) ≡ false
 unfolding keyword_of_token
-none_at_198 = refl
+none_at_first = refl
 
-none_at_199 : is_some (keyword_of_token 199) ≡ false
+none_between : is_some (keyword_of_token (PAIR_FIRST + 1)) ≡ false
 unfolding keyword_of_token
-none_at_199 = refl
+none_between = refl
 
-none_at_200 : is_some (keyword_of_token 200) ≡ false
+none_at_last : is_some (keyword_of_token PAIR_LAST) ≡ false
 unfolding keyword_of_token
-none_at_200 = refl
+none_at_last = refl
 
+-- a byte that begins pairs has no keyword of its own
 none_of_pairs : (n : ℕ) → begins_pair n ≡ true → is_some (keyword_of_token n) ≡ false
 none_of_pairs n begins =
-    elim (cases_eq 198 n) [
-      | inl e ↦ at 198 none_at_198 e
-      | inr not_first ↦ elim (cases_eq 199 n) [
-        | inl e ↦ at 199 none_at_199 e
-        | inr not_second ↦ at 200 none_at_200 (omega (arith, not_first, not_second, low, high))
+    elim (cases_eq PAIR_FIRST n) [
+      | inl e ↦ at PAIR_FIRST none_at_first e
+      | inr not_first ↦ elim (cases_eq (PAIR_FIRST + 1) n) [
+        | inl e ↦ at (PAIR_FIRST + 1) none_between e
+        | inr not_second ↦ at PAIR_LAST none_at_last (omega (arith, not_first, not_second, within.0, within.1))
       ]
     ]
   where
-    low : 198 ≤ n
-    low = leb-true 198 n (and_parts (nat_le 198 n) (nat_le n 200) begins).0
-
-    high : n ≤ 200
-    high = leb-true n 200 (and_parts (nat_le 198 n) (nat_le n 200) begins).1
+    within : (PAIR_FIRST ≤ n) × (n ≤ PAIR_LAST)
+    within = pair_range n begins
 
     at : (k : ℕ) → is_some (keyword_of_token k) ≡ false → k ≡ n → is_some (keyword_of_token n) ≡ false
     at k none e = subst (λ m. is_some (keyword_of_token m) ≡ false) e none

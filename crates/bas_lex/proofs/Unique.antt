@@ -4,6 +4,7 @@ use Rattle.std.specs.List.{list_all}
 use Rattle.std.proofs.lemmas.Bool.{or_cases, and_right, cond-true, cond-false, false_from_ne_true}
 use Rattle.bv_token.specs.declared.tokens.TheConstants.{REM, DATA}
 use Rattle.bv_token.specs.Tokens.{begins_pair}
+use Rattle.bas_lex.specs.Bytes.{space}
 use Rattle.bas_lex.specs.declared.symbol.Mode.{Mode}
 use Rattle.bas_lex.specs.declared.symbol.Sym.{Sym}
 use Rattle.bas_lex.specs.declared.symbol.SymKind.{SymKind}
@@ -19,15 +20,15 @@ use Rattle.bas_lex.proofs.Pieces.{no_piece_at_end, symbol_is}
 -- no sign begins with a space
 abbrev no_space_first : List ℕ → Bool
 no_space_first [] = true
-no_space_first (c ∷ more) = not (c == 32)
+no_space_first (c ∷ more) = not (c == space)
 
 no_sign_with_space : list_all no_space_first signs ≡ true
 unfolding signs
 no_sign_with_space = refl
 
 -- no symbol begins with a space
-no_space_symbol : (asm : Bool) (kind : SymKind) (more rest : List ℕ) → of_class OfSign asm kind (32 ∷ more) rest → ⊥
-no_space_symbol asm (kinds.Mark n) more rest is = true≢false (sym (at_place no_space_first signs n (32 ∷ more) no_sign_with_space is))
+no_space_symbol : (asm : Bool) (kind : SymKind) (more rest : List ℕ) → of_class OfSign asm kind (space ∷ more) rest → ⊥
+no_space_symbol asm (kinds.Mark n) more rest is = true≢false (sym (at_place no_space_first signs n (space ∷ more) no_sign_with_space is))
 no_space_symbol asm kind more rest is = is
 
 -- no symbol begins with REM or DATA
@@ -57,7 +58,7 @@ tag_of (Tailed token tail) = IsTailed
 
 -- the kind of the piece that begins with a byte, if any does
 abbrev tag_at : Bool → ℕ → Tag
-tag_at asm c = if begins_comment asm c then IsComment else if c == 32 then IsSpace else if c == REM || c == DATA then IsTailed else IsOne
+tag_at asm c = if begins_comment asm c then IsComment else if c == space then IsSpace else if c == REM || c == DATA then IsTailed else IsOne
 
 -- a piece that fits, by the first byte
 record Tagged (asm : Bool) (piece : Piece) (text : List ℕ) : Type 0 where
@@ -71,11 +72,11 @@ tag_symbol asm kind bytes text rest first more rest' split absent is = record {
   first = first;
   after = more;
   split = split;
-  tag = sym (cond-false (begins_comment asm first) _ _ (false_from_ne_true (begins_comment asm first) (λ e. absent (first, more, split, e))) ∙ cond-false (first == 32) _ _ no_space ∙ cond-false (first == REM || first == DATA) _ _ no_tailed);
+  tag = sym (cond-false (begins_comment asm first) _ _ (false_from_ne_true (begins_comment asm first) (λ e. absent (first, more, split, e))) ∙ cond-false (first == space) _ _ no_space ∙ cond-false (first == REM || first == DATA) _ _ no_tailed);
 }
   where
-    no_space : (first == 32) ≡ false
-    no_space = false_from_ne_true (first == 32) (λ e. no_space_symbol asm kind rest rest' (subst (λ n. of_class (class_of n) asm kind (n ∷ rest) rest') (eqb-true first 32 e) is))
+    no_space : (first == space) ≡ false
+    no_space = false_from_ne_true (first == space) (λ e. no_space_symbol asm kind rest rest' (subst (λ n. of_class (class_of n) asm kind (n ∷ rest) rest') (eqb-true first space e) is))
 
     no_tailed : (first == REM || first == DATA) ≡ false
     no_tailed = false_from_ne_true (first == REM || first == DATA) (λ e. by_token (or_cases (first == REM) (first == DATA) e))
@@ -85,7 +86,7 @@ tag_symbol asm kind bytes text rest first more rest' split absent is = record {
         by_token (inr e) = no_tailed_symbol asm kind DATA rest rest' refl (inr refl) (subst (λ n. of_class (class_of n) asm kind (n ∷ rest) rest') (eqb-true first DATA e) is)
 
 tagged : (asm : Bool) (piece : Piece) (text rest : List ℕ) → Fits asm piece text rest → Tagged asm piece text
-tagged asm Space text rest fits = record { first = 32; after = rest; split = fits.0; tag = sym (cond-false (begins_comment asm 32) _ _ (and_right asm false refl)) }
+tagged asm Space text rest fits = record { first = space; after = rest; split = fits.0; tag = sym (cond-false (begins_comment asm space) _ _ (and_right asm false refl)) }
 tagged asm (Comment bytes) text rest fits =
     let at = fits.1.0 in
     record { first = at.0; after = at.1 ++ rest; split = fits.0 ∙ ap (λ l. l ++ rest) at.2; tag = sym (cond-true (begins_comment asm at.0) _ _ at.3) }

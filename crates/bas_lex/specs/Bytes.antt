@@ -1,56 +1,78 @@
 -- Tests of bytes, and what stands at the front of a list.
-use Rattle.std.specs.Prelude.{◌≡◌, ℕ, ◌-◌, Bool, true, false, ◌&&◌, ◌||◌, nat_le, List, [], ◌∷◌, if◌then◌else◌}
+use Rattle.std.specs.Prelude.{◌≡◌, ℕ, ◌+◌, ◌-◌, Bool, true, false, ◌||◌, ◌==◌, List, [], ◌∷◌, if◌then◌else◌}
+use Rattle.std.specs.Char.{is_ascii_alphabetic, is_ascii_digit}
+use Rattle.std.specs.Int.{is_in_range}
 use Rattle.std.specs.List.{AllByRecursion}
 
--- the bytes that the definitions name
+-- the bytes that the definitions name, in ASCII but for the pound sign, which has a place of its own in Acorn's set
 abbrev pub space : ℕ
-space = 32
+space = 0x20
 
 abbrev pub quotation_mark : ℕ
-quotation_mark = 34
+quotation_mark = 0x22
 
 abbrev pub dollar_sign : ℕ
-dollar_sign = 36
+dollar_sign = 0x24
 
 abbrev pub percent_sign : ℕ
-percent_sign = 37
+percent_sign = 0x25
 
 abbrev pub ampersand : ℕ
-ampersand = 38
+ampersand = 0x26
 
 abbrev pub open_bracket : ℕ
-open_bracket = 40
+open_bracket = 0x28
 
 abbrev pub point : ℕ
-point = 46
+point = 0x2e
+
+abbrev pub digit_0 : ℕ
+digit_0 = 0x30
+
+abbrev pub digit_9 : ℕ
+digit_9 = 0x39
 
 abbrev pub semicolon : ℕ
-semicolon = 59
+semicolon = 0x3b
 
 abbrev pub at_sign : ℕ
-at_sign = 64
+at_sign = 0x40
+
+abbrev pub capital_a : ℕ
+capital_a = 0x41
+
+abbrev pub capital_f : ℕ
+capital_f = 0x46
 
 abbrev pub backslash : ℕ
-backslash = 92
+backslash = 0x5c
 
--- the codes from the first to the last
-abbrev pub is_within : ℕ → ℕ → ℕ → Bool
-is_within first last c = nat_le first c && nat_le c last
+abbrev pub underscore : ℕ
+underscore = 0x5f
 
--- a letter, `_` or the pound sign, which is 96
+abbrev pub pound_sign : ℕ
+pound_sign = 0x60
+
+abbrev pub small_a : ℕ
+small_a = 0x61
+
+abbrev pub small_f : ℕ
+small_f = 0x66
+
+-- a letter, `_` or the pound sign
 abbrev pub begins_name : ℕ → Bool
-begins_name c = is_within 65 90 c || is_within 95 122 c
+begins_name c = is_ascii_alphabetic c || (c == underscore || c == pound_sign)
 
 -- a letter, a digit, `_` or the pound sign
 abbrev pub is_in_name : ℕ → Bool
-is_in_name c = begins_name c || is_within 48 57 c
+is_in_name c = begins_name c || is_ascii_digit c
 
 -- the value of a digit of base 16 or below, whose letters are of either case; 16 for any other byte
 abbrev pub digit_value : ℕ → ℕ
 digit_value c =
-    if is_within 48 57 c then c - 48
-    else if is_within 65 70 c then c - 55
-    else if is_within 97 102 c then c - 87
+    if is_ascii_digit c then c - digit_0
+    else if is_in_range capital_a capital_f c then c - capital_a + 10
+    else if is_in_range small_a small_f c then c - small_a + 10
     else 16
 
 -- each byte passes the test

@@ -1,15 +1,14 @@
 -- Which bytes are one symbol, kind by kind (BBC BASIC Reference Manual, variables, constants, keywords and operators).
-use Rattle.std.specs.Prelude.{◌≡◌, ◌≢◌, ◌⊎◌, ℕ, ◌+◌, ◌*◌, ◌<◌, Bool, true, false, ◌==◌, nat_lt, ℤ, List, [], ◌∷◌, ◌++◌, flat_map, fold, slice_get, Some, IsSome, codes, if◌then◌else◌}
+use Rattle.std.specs.Prelude.{◌≡◌, ◌≢◌, ◌⊎◌, ℕ, ◌+◌, ◌*◌, ◌^◌, ◌<◌, Bool, true, false, ◌==◌, nat_lt, ℤ, List, [], ◌∷◌, ◌++◌, flat_map, fold, slice_get, Some, IsSome, codes, if◌then◌else◌}
 use Rattle.std.specs.Int.{w32, cast_signed}
 use Rattle.bv_token.specs.declared.reference.TheConstants.{LINE_REFERENCE}
-use Rattle.bv_token.specs.declared.tokens.TheConstants.{REM, DATA}
+use Rattle.bv_token.specs.declared.tokens.TheConstants.{REM, DATA, FN, PROC}
 use Rattle.bv_token.specs.References.{referred}
 use Rattle.bv_token.specs.Tokens.{words, keyword_of_token, keyword_of_pair, pairs}
 use Rattle.bas_lex.specs.declared.number.Radix.{Radix}
 use Rattle.bas_lex.specs.declared.number.Radix.TheVariants as radixes
 use Rattle.bas_lex.specs.declared.symbol.SymKind.{SymKind}
 use Rattle.bas_lex.specs.declared.symbol.SymKind.TheVariants as kinds
-use Rattle.bas_lex.specs.declared.token.TheConstants.{FN, PROC}
 use Rattle.bas_lex.specs.Bytes.{quotation_mark, dollar_sign, percent_sign, ampersand, open_bracket, point, at_sign, begins_name, is_in_name, digit_value, Each, NotFirst}
 
 -- A keyword's byte, other than REM and DATA, which have a Tail.
@@ -99,9 +98,9 @@ base radixes.Binary = 2
 
 -- values are below this: 2^31 for decimal digits, and else 2^32
 abbrev pub value_bound : Radix → ℕ
-value_bound radixes.Decimal = 2147483648
-value_bound radixes.Hexadecimal = 4294967296
-value_bound radixes.Binary = 4294967296
+value_bound radixes.Decimal = 2 ^ 31
+value_bound radixes.Hexadecimal = 2 ^ 32
+value_bound radixes.Binary = 2 ^ 32
 
 -- a digit, of either case
 abbrev pub is_digit : Radix → ℕ → Bool

@@ -18,4 +18,3 @@ pub use number::Radix;
 pub use scan::symbols;
 pub use sign::{CLOSE_SQUARE, COLON, OPEN_SQUARE};
 pub use symbol::{LexError, Mode, Sym, SymKind, SymbolRun};
-pub use token::{FN, PROC};

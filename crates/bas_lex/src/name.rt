@@ -7,11 +7,14 @@ use crate::front::Front;
 use crate::symbol::SymKind;
 use crate::token::call_token;
 
-/// Whether a name may begin with the byte: a letter, `_` or the pound sign, which is 0x60.
+/// The pound sign, in Acorn's character set.
+const POUND_SIGN: u8 = 0x60;
+
+/// Whether a name may begin with the byte: a letter, `_` or the pound sign.
 pub fn begins_name(byte: u8) -> bool
     ensures { result ≡ begins_name byte }
 {
-    matches!(byte, b'A'..=b'Z' | b'_'..=b'z')
+    byte.is_ascii_alphabetic() || byte == b'_' || byte == POUND_SIGN
 }
 
 /// Whether a name may go on with the byte: one that may begin it, or a digit.

@@ -14,6 +14,9 @@ pub enum Radix {
     Binary,
 }
 
+/// The values of decimal digits are below this, so that they are positive numbers.
+const DECIMAL_BOUND: u64 = 0x8000_0000;
+
 /// Values of digits count only below this, since no number has a greater one.
 const VALUE_CAP: u64 = 0x1_0000_0000;
 
@@ -37,7 +40,7 @@ impl Radix {
         ensures { result ≡ value_bound self }
     {
         match self {
-            Radix::Decimal => 0x8000_0000,
+            Radix::Decimal => DECIMAL_BOUND,
             Radix::Hexadecimal | Radix::Binary => VALUE_CAP,
         }
     }

@@ -11,8 +11,8 @@ use crate::number::{Radix, read_number};
 use crate::sign::{CLOSE_SQUARE, COLON, OPEN_SQUARE, read_sign};
 use crate::symbol::{LexError, Mode, Sym, SymKind, SymbolRun};
 use crate::text::read_text;
-use crate::token::{FN, PROC, read_line_ref, read_token};
-use bv_token::{DATA, LINE_REFERENCE, OTHERWISE, REM};
+use crate::token::{read_line_ref, read_token};
+use bv_token::{DATA, FN, LINE_REFERENCE, LONGEST_TEXT, OTHERWISE, PROC, REM};
 use sqlite_items::Items;
 use std::alloc::Global;
 
@@ -113,7 +113,7 @@ fn behind_symbol(mode: Mode, kind: SymKind) -> Mode
 }
 
 fn symbol_at(from: u8, mode: Mode, kind: SymKind, size: usize) -> Sym
-    requires { from + size ≤ 251 }
+    requires { from + size ≤ LONGEST_TEXT }
     ensures { result ≡ symbol_at from mode kind size }
 {
     Sym {
@@ -132,7 +132,7 @@ fn take_piece<'a>(
     at: u8,
     text: &'a [u8],
 ) -> Result<&'a [u8], LexError>
-    requires { at + length text.now ≤ 251 }
+    requires { at + length text.now ≤ LONGEST_TEXT }
     ensures ok { IfOk result (λ rest. TakesPiece at text.now mode.old list.old.items rest.now mode.new list.new.items) }
     ensures err { IfErr result (ExplainsPiece at mode.old text.now) }
 {
@@ -154,11 +154,11 @@ fn take_piece<'a>(
     }
 }
 
-/// The symbols of a line's text, of at most 251 bytes, that begins with the assembler off or on. Their spans are in
+/// The symbols of a line's text, of at most `LONGEST_TEXT` bytes, that begins with the assembler off or on. Their spans are in
 /// order, and a symbol's text is its part of the line's (BBC BASIC Reference Manual, variables, constants, keywords,
 /// operators and the assembler).
 pub fn symbols(alloc: Global, text: &[u8], asm: bool) -> Result<SymbolRun, LexError>
-    requires { length text.now ≤ 251 }
+    requires { length text.now ≤ LONGEST_TEXT }
     ensures ok { IfOk result (λ run. Symbols asm text.now run.list run.asm_after) }
     ensures spans { IfOk result (λ run. AreInOrder 0 run.list (length text.now)) }
     ensures texts { IfOk result (λ run. AllByRecursion (IsSpelled text.now) run.list) }

@@ -5,13 +5,7 @@ ghost use Rattle.bas_lex.specs.Scan.{Best, Tokens, LineRefs};
 
 use crate::front::{Front, split_byte};
 use crate::symbol::SymKind;
-use bv_token::{DATA, LINE_REFERENCE, PAIR_FIRST, PAIR_LAST, REM, keyword, line_ref};
-
-/// The token of FN.
-pub const FN: u8 = 0xa4;
-
-/// The token of PROC.
-pub const PROC: u8 = 0xf2;
+use bv_token::{DATA, FN, LINE_REFERENCE, PROC, REM, begins_pair, keyword, line_ref};
 
 /// The token of FN for a function, and of PROC for a procedure.
 pub fn call_token(function: bool) -> u16
@@ -22,12 +16,6 @@ pub fn call_token(function: bool) -> u16
     } else {
         u16::from(PROC)
     }
-}
-
-fn begins_pair(byte: u8) -> bool
-    ensures { result ≡ begins_pair byte }
-{
-    (PAIR_FIRST..=PAIR_LAST).contains(&byte)
 }
 
 /// Whether `first` has a keyword, with `second` where it begins a pair.

@@ -1,27 +1,27 @@
 use Rattle.std.proofs.Common.{◌≡◌, refl, arith, Some, sym, subst, true, false, rules, inl, inr}
 use Rattle.bv_token.specs.declared.reference.TheConstants.{LINE_REFERENCE}
+use Rattle.bv_token.specs.declared.tokens.TheConstants.{FN, PROC}
 use Rattle.bas_lex.specs.declared.number.Radix.TheVariants as radixes
-use Rattle.bas_lex.specs.declared.token.TheConstants.{FN, PROC}
 use Rattle.bas_lex.proofs.Classes.{OfName, OfSystemName, OfText, OfLabel, OfLineRef, OfToken, OfSign, OfCall, OfNumber, joined, joined_at, class_name, class_decimal, class_token, class_sign}
-use Rattle.bas_lex.specs.Bytes.{begins_name}
+use Rattle.bas_lex.specs.Bytes.{begins_name, ampersand, at_sign, percent_sign, point, quotation_mark}
 use Rattle.bas_lex.specs.Scan.{Best, Names}
 use Rattle.bas_lex.proofs.scan.read_symbol.Goals as goal
 use Rattle.bas_lex.proofs.scan.read_symbol.Goals.{in_default-via-then-first-lt48, in_default-via-else-first-lt48+else-first-lt58+then-first-lt127}
 
 pub returns-in-38 : goal.returns-in-38
-returns-in-38 c = joined_at c.args.asm _ _ 38 _ (OfNumber radixes.Hexadecimal) _ c.requires.whole c.in-38.is refl c.read_number.ensures
+returns-in-38 c = joined_at c.args.asm _ _ ampersand _ (OfNumber radixes.Hexadecimal) _ c.requires.whole c.in-38.is refl c.read_number.ensures
 
 pub returns-in-37 : goal.returns-in-37
-returns-in-37 c = joined_at c.args.asm _ _ 37 _ (OfNumber radixes.Binary) _ c.requires.whole c.in-37.is refl c.read_number-in-37.ensures
+returns-in-37 c = joined_at c.args.asm _ _ percent_sign _ (OfNumber radixes.Binary) _ c.requires.whole c.in-37.is refl c.read_number-in-37.ensures
 
 pub returns-in-34 : goal.returns-in-34
-returns-in-34 c = joined_at c.args.asm _ _ 34 _ OfText _ c.requires.whole c.in-34.is refl c.read_text.ensures
+returns-in-34 c = joined_at c.args.asm _ _ quotation_mark _ OfText _ c.requires.whole c.in-34.is refl c.read_text.ensures
 
 pub returns-in-46 : goal.returns-in-46
-returns-in-46 c = joined_at c.args.asm _ _ 46 _ OfLabel _ c.requires.whole c.in-46.is refl c.read_label.ensures
+returns-in-46 c = joined_at c.args.asm _ _ point _ OfLabel _ c.requires.whole c.in-46.is refl c.read_label.ensures
 
 pub returns-in-64 : goal.returns-in-64
-returns-in-64 c = joined_at c.args.asm _ _ 64 _ OfSystemName _ c.requires.whole c.in-64.is refl c.read_system_name.ensures
+returns-in-64 c = joined_at c.args.asm _ _ at_sign _ OfSystemName _ c.requires.whole c.in-64.is refl c.read_system_name.ensures
 
 pub returns-in-141 : goal.returns-in-141
 returns-in-141 c = joined_at c.args.asm _ _ LINE_REFERENCE _ OfLineRef _ c.requires.whole c.in-141.is refl c.read_line_ref.ensures
