@@ -7,7 +7,7 @@ use Rattle.bas_lex.specs.declared.symbol.Mode.{Mode}
 use Rattle.bas_lex.specs.declared.symbol.Sym.{Sym}
 use Rattle.bas_lex.specs.declared.symbol.SymKind.{SymKind}
 use Rattle.bas_lex.specs.declared.symbol.SymKind.TheVariants as kinds
-use Rattle.bas_lex.specs.declared.sign.TheConstants.{COLON, OPEN_SQUARE, CLOSE_SQUARE}
+use Rattle.bas_lex.specs.declared.sign_numbers.TheConstants.{COLON, OPEN_SQUARE, CLOSE_SQUARE}
 use Rattle.bas_lex.specs.Bytes.{space, semicolon, backslash}
 use Rattle.bas_lex.specs.Kinds.{IsSymbol}
 

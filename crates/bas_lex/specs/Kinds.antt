@@ -7,6 +7,8 @@ use Rattle.bv_token.specs.References.{referred}
 use Rattle.bv_token.specs.Tokens.{words, keyword_of_token, keyword_of_pair, pairs}
 use Rattle.bas_lex.specs.declared.number.Radix.{Radix}
 use Rattle.bas_lex.specs.declared.number.Radix.TheVariants as radixes
+use Rattle.bas_lex.specs.declared.sign_numbers.TheConstants.{PLUS, MINUS, TIMES, EQUALS, LESS, GREATER, NOT_EQUAL, LESS_OR_EQUAL, GREATER_OR_EQUAL, SHIFT_LEFT, SHIFT_RIGHT_SIGNED, SHIFT_RIGHT, PLUS_EQUALS, MINUS_EQUALS, OPEN_ROUND, CLOSE_ROUND, COMMA, SEMICOLON, COLON, APOSTROPHE, TILDE, QUESTION, EXCLAMATION, DOLLAR, HASH, OPEN_SQUARE, CLOSE_SQUARE, OPEN_CURLY, CLOSE_CURLY, CARET}
+use Rattle.bas_lex.specs.declared.symbol.TheConstants.{NO_SUFFIX}
 use Rattle.bas_lex.specs.declared.symbol.SymKind.{SymKind}
 use Rattle.bas_lex.specs.declared.symbol.SymKind.TheVariants as kinds
 use Rattle.bas_lex.specs.Bytes.{quotation_mark, dollar_sign, percent_sign, ampersand, open_bracket, point, at_sign, begins_name, is_in_name, digit_value, Each, NotFirst}
@@ -28,11 +30,11 @@ pub record IsPair (n : ℕ) (bytes : List ℕ) : Type 0 where
 
 -- no suffix, `%` or `$`
 abbrev pub IsSuffix : ℕ → Type 0
-IsSuffix suffix = (suffix ≡ 0) ⊎ ((suffix ≡ percent_sign) ⊎ (suffix ≡ dollar_sign))
+IsSuffix suffix = (suffix ≡ NO_SUFFIX) ⊎ ((suffix ≡ percent_sign) ⊎ (suffix ≡ dollar_sign))
 
--- the byte of a suffix, which is 0 where there is none
+-- the byte of a suffix, if there is one
 abbrev pub suffix_bytes : ℕ → List ℕ
-suffix_bytes suffix = if suffix == 0 then [] else suffix ∷ []
+suffix_bytes suffix = if suffix == NO_SUFFIX then [] else suffix ∷ []
 
 -- a bracket, or none
 abbrev pub bracket_bytes : Bool → List ℕ
@@ -143,6 +145,41 @@ signs = words (codes "+ - * = < > <> <= >= << >> >>> += -= ( ) , ; : ' ~ ? ! $ #
 -- the sign of this number
 abbrev pub IsSign : ℕ → List ℕ → Type 0
 IsSign n bytes = slice_get signs n ≡ Some bytes
+
+-- the signs with the names of their numbers
+abbrev pub numbered_signs : List (ℕ × List ℕ)
+numbered_signs =
+    (PLUS, codes "+") ∷
+    (MINUS, codes "-") ∷
+    (TIMES, codes "*") ∷
+    (EQUALS, codes "=") ∷
+    (LESS, codes "<") ∷
+    (GREATER, codes ">") ∷
+    (NOT_EQUAL, codes "<>") ∷
+    (LESS_OR_EQUAL, codes "<=") ∷
+    (GREATER_OR_EQUAL, codes ">=") ∷
+    (SHIFT_LEFT, codes "<<") ∷
+    (SHIFT_RIGHT_SIGNED, codes ">>") ∷
+    (SHIFT_RIGHT, codes ">>>") ∷
+    (PLUS_EQUALS, codes "+=") ∷
+    (MINUS_EQUALS, codes "-=") ∷
+    (OPEN_ROUND, codes "(") ∷
+    (CLOSE_ROUND, codes ")") ∷
+    (COMMA, codes ",") ∷
+    (SEMICOLON, codes ";") ∷
+    (COLON, codes ":") ∷
+    (APOSTROPHE, codes "'") ∷
+    (TILDE, codes "~") ∷
+    (QUESTION, codes "?") ∷
+    (EXCLAMATION, codes "!") ∷
+    (DOLLAR, codes "$") ∷
+    (HASH, codes "#") ∷
+    (OPEN_SQUARE, codes "[") ∷
+    (CLOSE_SQUARE, codes "]") ∷
+    (OPEN_CURLY, codes "{") ∷
+    (CLOSE_CURLY, codes "}") ∷
+    (CARET, codes "^") ∷
+    []
 
 -- These bytes are one symbol of this kind, where the rest stands behind them, with the assembler on or off. A Tail
 -- is none by itself, but stands behind REM and DATA.

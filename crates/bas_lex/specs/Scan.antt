@@ -6,6 +6,7 @@ use Rattle.bas_lex.specs.declared.name.NameEnd.{NameEnd}
 use Rattle.bas_lex.specs.declared.number.Digits.{Digits}
 use Rattle.bas_lex.specs.declared.number.Radix.{Radix}
 use Rattle.bas_lex.specs.declared.number.TheConstants.{VALUE_CAP}
+use Rattle.bas_lex.specs.declared.symbol.TheConstants.{NO_SUFFIX}
 use Rattle.bas_lex.specs.declared.symbol.SymKind.{SymKind}
 use Rattle.bas_lex.specs.declared.symbol.SymKind.TheVariants as kinds
 use Rattle.bas_lex.specs.declared.text.Part.{Part}
@@ -88,7 +89,7 @@ is_bracket c = c == open_bracket
 pub record SplitsSuffix (text : List ℕ) (suffix : ℕ) (rest : List ℕ) : Type 0 where
   pub is_suffix_byte : IsSuffix suffix
   pub split : text ≡ suffix_bytes suffix ++ rest
-  pub bare : suffix ≡ 0 → NotFirst is_suffix text
+  pub bare : suffix ≡ NO_SUFFIX → NotFirst is_suffix text
 
 -- The text has a bracket first, or none.
 pub record SplitsBracket (text : List ℕ) (bracket : Bool) (rest : List ℕ) : Type 0 where

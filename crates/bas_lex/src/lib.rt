@@ -7,14 +7,14 @@ mod name;
 mod number;
 mod scan;
 mod sign;
+pub mod sign_numbers;
 mod symbol;
 #[cfg(test)]
 mod tests;
 mod text;
 mod token;
 
-pub use laws::one_cut;
+pub use laws::{one_cut, signs_numbered};
 pub use number::Radix;
 pub use scan::symbols;
-pub use sign::{CLOSE_SQUARE, COLON, OPEN_SQUARE};
-pub use symbol::{LexError, Mode, Sym, SymKind, SymbolRun};
+pub use symbol::{LexError, Mode, NO_SUFFIX, Sym, SymKind, SymbolRun};

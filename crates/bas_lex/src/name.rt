@@ -4,7 +4,7 @@ ghost use Rattle.bas_lex.specs.Kinds.{call_token};
 ghost use Rattle.bas_lex.specs.Scan.{Best, Names, SystemNames, Calls, Labels, IsRun, SplitsSuffix, SplitsBracket, SplitsPercent, EndsName, NoLabelName, EndsLabel};
 
 use crate::front::Front;
-use crate::symbol::SymKind;
+use crate::symbol::{NO_SUFFIX, SymKind};
 use crate::token::call_token;
 
 /// The pound sign, in Acorn's character set.
@@ -45,13 +45,13 @@ fn skip_letters(text: &[u8]) -> &[u8]
     rest
 }
 
-/// A suffix at the front, or 0, and what stands behind it.
+/// A suffix at the front, or `NO_SUFFIX`, and what stands behind it.
 fn split_suffix(text: &[u8]) -> (u8, &[u8])
     ensures { SplitsSuffix text.now result.0 result.1.now }
 {
     match text {
         [suffix @ (b'%' | b'$'), rest @ ..] => (*suffix, rest),
-        _ => (0, text),
+        _ => (NO_SUFFIX, text),
     }
 }
 
@@ -65,7 +65,8 @@ fn split_bracket(text: &[u8]) -> (bool, &[u8])
     }
 }
 
-/// What goes on with a name behind its first byte: a suffix or 0, whether there is a bracket, and the number of bytes.
+/// What goes on with a name behind its first byte: a suffix or `NO_SUFFIX`, whether there is a bracket, and the number of
+/// bytes.
 #[derive(Clone, Copy, Drop)]
 struct NameEnd {
     suffix: u8,

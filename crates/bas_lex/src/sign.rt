@@ -4,15 +4,6 @@ ghost use Rattle.bas_lex.specs.Scan.{Best, Signs, longer_of, longer_sign};
 use crate::front::Front;
 use crate::symbol::SymKind;
 
-/// The number of the sign `:`.
-pub const COLON: u8 = 18;
-
-/// The number of the sign `[`.
-pub const OPEN_SQUARE: u8 = 25;
-
-/// The number of the sign `]`.
-pub const CLOSE_SQUARE: u8 = 26;
-
 /// The signs. A sign's number is its place here.
 #[rattlefmt::skip]
 static SIGNS: [&str; 30] = [

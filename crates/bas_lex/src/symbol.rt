@@ -1,13 +1,15 @@
 use sqlite_items::Items;
 use std::alloc::{AllocError, AllocFailed};
 
+/// The suffix of a name that has none.
+pub const NO_SUFFIX: u8 = 0;
+
 /// What a symbol is.
 #[derive(Debug, Clone, Copy, PartialEq, Eq, Drop)]
 pub enum SymKind {
     /// A keyword's byte, or 256 times the first byte of a pair plus the second.
     Token(u16),
-    /// A variable's name. The suffix is the byte `%` or `$`, or 0 where there is none. With the bracket it is an
-    /// array's name.
+    /// A variable's name. The suffix is the byte `%` or `$`, or `NO_SUFFIX`. With the bracket it is an array's name.
     Name { suffix: u8, bracket: bool },
     /// FN or PROC with a name.
     Call { function: bool, bracket: bool },
@@ -18,8 +20,7 @@ pub enum SymKind {
     Text,
     /// A reference to the line of this number.
     LineRef(u16),
-    /// A sign, by its number, from 0 on, in this order: `+ - * = < > <> <= >= << >> >>> += -= ( ) , ; : ' ~ ? ! $ # [ ]
-    /// { } ^`.
+    /// A sign, by its number, which `sign_numbers` has.
     Mark(u8),
     /// The bytes behind REM or DATA, which may be none.
     Tail,
