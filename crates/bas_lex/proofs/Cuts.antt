@@ -5,7 +5,7 @@ use Rattle.bas_lex.specs.declared.symbol.LexError.{LexError}
 use Rattle.bas_lex.specs.declared.symbol.LexError.TheVariants as errors
 use Rattle.bas_lex.specs.declared.symbol.Mode.{Mode}
 use Rattle.bas_lex.specs.declared.symbol.Sym.{Sym}
-use Rattle.bas_lex.specs.Cut.{Piece, Space, Comment, Symbol, Tailed, bytes_of, Fits, behind, at_line, Cuts, piece_symbols, symbols_of, Symbols, AreInOrder, Bad, Explains, NoPiece}
+use Rattle.bas_lex.specs.Cut.{Piece, bytes_of, Fits, behind, at_line, Cuts, piece_symbols, symbols_of, Symbols, Bad, Explains, NoPiece}
 use Rattle.bas_lex.specs.Next.{TakesPiece, ExplainsPiece}
 use Rattle.bas_lex.proofs.Pieces.{piece_shortens}
 
@@ -69,27 +69,3 @@ pub explains : (asm : Bool) (text : List ℕ) (mode : Mode) (rest : List ℕ) (l
 explains asm text mode rest list at (errors.Bad place) so_far place_is some why =
     is_bad asm text mode rest list place so_far (omega (arith, place_is, why.0)) (λ e. omega (arith, some, ap length e)) why.1
 explains asm text mode rest list at errors.NoMemory so_far place_is some why = tt
-
-from_before : (from from' to : ℕ) (list : List Sym) → from ≤ from' → AreInOrder from' list to → AreInOrder from list to
-from_before from from' to [] le order = omega (arith, le, order)
-from_before from from' to (s ∷ list) le order = (omega (arith, le, order.0), order.1, order.2)
-
-in_order : (from : ℕ) (mode last : Mode) (text rest : List ℕ) (pieces : List Piece) → Cuts mode text pieces last rest → AreInOrder from (symbols_of from mode pieces) (from + length text)
-in_order from mode last text rest [] cut = omega arith
-in_order from mode last text rest (p ∷ pieces) cut =
-    by_piece p (symbols_of (from + length (bytes_of p)) (behind mode p) pieces) (ap length cut.1.0 ∙ length-append (bytes_of p) cut.0) (in_order (from + length (bytes_of p)) (behind mode p) last cut.0 rest pieces cut.2)
-  where
-    by_piece : (q : Piece) (list : List Sym) → length text ≡ length (bytes_of q) + length cut.0 → AreInOrder (from + length (bytes_of q)) list (from + length (bytes_of q) + length cut.0) → AreInOrder from (piece_symbols from mode q ++ list) (from + length text)
-    by_piece q list size others = by_form q (subst (λ n. AreInOrder (from + length (bytes_of q)) list n) (omega (arith, size)) others)
-      where
-        by_form : (q : Piece) → AreInOrder (from + length (bytes_of q)) list (from + length text) → AreInOrder from (piece_symbols from mode q ++ list) (from + length text)
-        by_form Space others = from_before from (from + 1) _ list (omega arith) others
-        by_form (Comment bytes) others = from_before from (from + length bytes) _ list (omega arith) others
-        by_form (Symbol kind bytes) others = (omega arith, omega arith, others)
-        by_form (Tailed token tail) others =
-            (omega arith, omega arith, (omega arith, omega arith, from_before (from + 1 + length tail) (from + length (token ∷ tail)) _ list (omega arith) others))
-
--- the spans of the symbols of a text are in order
-pub spans_in_order : (asm asm_after : Bool) (text : List ℕ) (list : List Sym) → Symbols asm text list asm_after → AreInOrder 0 list (length text)
-spans_in_order asm asm_after text list s =
-    subst (λ l. AreInOrder 0 l (length text)) (sym s.listed) (subst (λ n. AreInOrder 0 (symbols_of 0 (at_line asm) s.pieces) n) (omega arith) (in_order 0 (at_line asm) s.last text [] s.pieces s.cut))

@@ -8,6 +8,7 @@ mod Tokens
 mod Classes
 pub mod Pieces
 pub mod Cuts
+pub mod Order
 pub mod OneKind
 pub mod Unique
 pub mod Decided

@@ -1,5 +1,5 @@
 -- How a line's text is cut into symbols.
-use Rattle.std.specs.Prelude.{◌≡◌, ◌≢◌, ◌⊎◌, ℕ, ◌+◌, ◌≤◌, Bool, true, false, not, ◌&&◌, ◌||◌, ◌==◌, List, [], ◌∷◌, ◌++◌, length, slice_range, if◌then◌else◌}
+use Rattle.std.specs.Prelude.{◌≡◌, ◌≢◌, ◌⊎◌, ℕ, ◌+◌, ◌≤◌, ◌<◌, Bool, true, false, not, ◌&&◌, ◌||◌, ◌==◌, List, [], ◌∷◌, ◌++◌, length, slice_range, if◌then◌else◌}
 use Rattle.bv_token.specs.declared.tokens.TheConstants.{REM, DATA}
 use Rattle.bas_lex.specs.declared.symbol.LexError.{LexError}
 use Rattle.bas_lex.specs.declared.symbol.LexError.TheVariants as errors
@@ -121,6 +121,15 @@ pub record Symbols (asm : Bool) (text : List ℕ) (list : List Sym) (asm_after :
 abbrev pub AreInOrder : ℕ → List Sym → ℕ → Type 0
 AreInOrder from [] to = from ≤ to
 AreInOrder from (symbol ∷ more) to = (from ≤ symbol.from) × (symbol.from ≤ symbol.to) × AreInOrder symbol.to more to
+
+-- a symbol has a byte or more, unless it is a Tail
+abbrev pub IsFilled : Sym → Type 0
+IsFilled symbol = symbol.kind ≢ kinds.Tail → symbol.from < symbol.to
+
+-- no symbol stands behind a Tail
+abbrev pub IsTailLast : List Sym → Type 0
+IsTailLast [] = Unit {0}
+IsTailLast (symbol ∷ more) = (symbol.kind ≡ kinds.Tail → more ≡ []) × IsTailLast more
 
 -- a Tail, and REM or DATA before it
 abbrev pub IsTailed : SymKind → List ℕ → Type 0

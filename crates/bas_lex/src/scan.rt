@@ -1,7 +1,7 @@
 ghost use Rattle.std.specs.Prelude.{◌≡◌, ◌≢◌, ◌≤◌, ◌+◌, ◌∷◌, length, IfOk, IfErr};
 ghost use Rattle.std.specs.List.{AllByRecursion};
 ghost use Rattle.bas_lex.specs.Kinds.{IsSymbol};
-ghost use Rattle.bas_lex.specs.Cut.{begins_comment, behind_sign, behind_symbol, symbol_at, Symbols, AreInOrder, IsSpelled, Explains};
+ghost use Rattle.bas_lex.specs.Cut.{begins_comment, behind_sign, behind_symbol, symbol_at, Symbols, AreInOrder, IsFilled, IsTailLast, IsSpelled, Explains};
 ghost use Rattle.bas_lex.specs.Scan.{Best};
 ghost use Rattle.bas_lex.specs.Next.{IsNext, TakesPiece, ExplainsPiece};
 
@@ -155,13 +155,16 @@ fn take_piece<'a>(
     }
 }
 
-/// The symbols of a line's text, of at most `LONGEST_TEXT` bytes, that begins with the assembler off or on. Their spans are in
-/// order, and a symbol's text is its part of the line's (BBC BASIC Reference Manual, variables, constants, keywords,
-/// operators and the assembler).
+/// The symbols of a line's text, of at most `LONGEST_TEXT` bytes, that begins with the assembler off or on. Their spans are
+/// in order, only a Tail may be empty, and a symbol's text is its part of the line's (BBC BASIC Reference Manual, variables,
+/// constants, keywords, operators and the assembler).
 pub fn symbols(alloc: Global, text: &[u8], asm: bool) -> Result<SymbolRun, LexError>
     requires { length text.now ≤ LONGEST_TEXT }
     ensures ok { IfOk result (λ run. Symbols asm text.now run.list run.asm_after) }
     ensures spans { IfOk result (λ run. AreInOrder 0 run.list (length text.now)) }
+    ensures filled { IfOk result (λ run. AllByRecursion IsFilled run.list) }
+    ensures tail { IfOk result (λ run. IsTailLast run.list) }
+    ensures count { IfOk result (λ run. length run.list ≤ length text.now + 1) }
     ensures texts { IfOk result (λ run. AllByRecursion (IsSpelled text.now) run.list) }
     ensures err { IfErr result (Explains asm text.now) }
 {

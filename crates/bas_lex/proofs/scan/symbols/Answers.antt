@@ -1,6 +1,7 @@
 use Rattle.std.proofs.Common.{◌-◌, length, arith, rules, tests}
 use Rattle.std.proofs.lemmas.Result.{err_from_is_err_and}
-use Rattle.bas_lex.proofs.Cuts.{cuts_within, cut_more, all_cut, spans_in_order, explains}
+use Rattle.bas_lex.proofs.Cuts.{cuts_within, cut_more, all_cut, explains}
+use Rattle.bas_lex.proofs.Order.{spans_in_order, symbols_filled, tail_is_last, symbols_count}
 use Rattle.bas_lex.proofs.Pieces.{piece_shortens}
 use Rattle.bas_lex.proofs.Spelled.{texts_spelled}
 use Rattle.bas_lex.proofs.scan.symbols.Goals as goal
@@ -33,3 +34,12 @@ returns-clause-spans c = spans_in_order _ _ _ _ (returns-clause-ok c)
 
 pub returns-clause-texts : goal.returns-clause-texts
 returns-clause-texts c = texts_spelled _ _ _ _ (returns-clause-ok c)
+
+pub returns-clause-filled : goal.returns-clause-filled
+returns-clause-filled c = symbols_filled _ _ _ _ (returns-clause-ok c)
+
+pub returns-clause-tail : goal.returns-clause-tail
+returns-clause-tail c = tail_is_last _ _ _ _ (returns-clause-ok c)
+
+pub returns-clause-count : goal.returns-clause-count
+returns-clause-count c = symbols_count _ _ _ _ (returns-clause-ok c)
