@@ -1,46 +1,31 @@
 //! Texts and their symbols, by hand from the rules of the language.
 
 use crate::scan::symbols;
-use crate::symbol::{LexError, Sym, SymKind};
+use crate::sign_numbers::{
+    CLOSE_SQUARE, COLON, COMMA, DOLLAR, EQUALS, GREATER, GREATER_OR_EQUAL, LESS, LESS_OR_EQUAL,
+    MINUS_EQUALS, NOT_EQUAL, OPEN_ROUND, OPEN_SQUARE, PLUS, PLUS_EQUALS, SEMICOLON, SHIFT_LEFT,
+    SHIFT_RIGHT, SHIFT_RIGHT_SIGNED,
+};
+use crate::symbol::{LexError, NO_SUFFIX, Sym, SymKind};
+use bv_token::{LONGEST_TEXT, REM};
 use std::alloc::Global;
 use std::test::Fail;
 
-/// A symbol with its span.
-type Spanned = (SymKind, u8, u8);
-
-fn is_listed(list: &[Sym], want: &[Spanned]) -> bool {
-    list.len() == want.len()
-        && list
-            .iter()
-            .zip(want)
-            .all(|(sym, spanned)| (sym.kind, sym.from, sym.to) == *spanned)
-}
-
-/// Whether the text, with the assembler off, has these symbols and no others.
-fn cuts(alloc: Global, text: &[u8], want: &[Spanned]) -> bool {
-    if text.len() > 251 {
+/// Whether the text, which begins with the assembler off or on, has these symbols and no others, and the assembler is off
+/// or on behind it.
+fn cuts(alloc: Global, text: &[u8], asm: bool, want: &[Sym], asm_after: bool) -> bool {
+    if text.len() > LONGEST_TEXT {
         return false;
     }
-    match symbols(alloc, text, false) {
-        Ok(run) => is_listed(run.list.as_slice(), want),
-        Err(_) => false,
-    }
-}
-
-/// The same with the assembler on, and whether it is on behind the text.
-fn assembles(alloc: Global, text: &[u8], want: &[Spanned], on: bool) -> bool {
-    if text.len() > 251 {
-        return false;
-    }
-    match symbols(alloc, text, true) {
-        Ok(run) => is_listed(run.list.as_slice(), want) && run.asm_after == on,
+    match symbols(alloc, text, asm) {
+        Ok(run) => run.asm_after == asm_after && run.list.as_slice() == want,
         Err(_) => false,
     }
 }
 
 /// Whether the text is bad at this place.
 fn is_bad(alloc: Global, text: &[u8], asm: bool, place: u8) -> bool {
-    if text.len() > 251 {
+    if text.len() > LONGEST_TEXT {
         return false;
     }
     match symbols(alloc, text, asm) {
@@ -49,110 +34,95 @@ fn is_bad(alloc: Global, text: &[u8], asm: bool, place: u8) -> bool {
     }
 }
 
-/// Whether the symbols of the text, which begins with the assembler off, stand in the assembler where they should.
-fn in_assembler(alloc: Global, text: &[u8], want: &[bool]) -> bool {
-    if text.len() > 251 {
-        return false;
-    }
-    match symbols(alloc, text, false) {
-        Ok(run) => run.list.len() == want.len()
-            && run
-                .list
-                .as_slice()
-                .iter()
-                .zip(want)
-                .all(|(sym, asm)| sym.asm == *asm),
-        Err(_) => false,
+/// A symbol outside the assembler.
+fn off(kind: SymKind, from: u8, to: u8) -> Sym {
+    Sym {
+        kind,
+        from,
+        to,
+        asm: false,
     }
 }
 
-fn name(suffix: u8) -> SymKind {
-    SymKind::Name {
-        suffix,
-        bracket: false,
+/// A symbol in the assembler.
+fn on(kind: SymKind, from: u8, to: u8) -> Sym {
+    Sym {
+        kind,
+        from,
+        to,
+        asm: true,
     }
 }
 
-fn array(suffix: u8) -> SymKind {
-    SymKind::Name {
-        suffix,
-        bracket: true,
-    }
+fn name(suffix: u8, bracket: bool) -> SymKind {
+    SymKind::Name { suffix, bracket }
 }
 
 fn call(function: bool, bracket: bool) -> SymKind {
     SymKind::Call { function, bracket }
 }
 
-fn number(value: i32) -> SymKind {
-    SymKind::Number(value)
-}
-
-fn token(number: u16) -> SymKind {
-    SymKind::Token(number)
-}
-
-fn sign(number: u8) -> SymKind {
-    SymKind::Mark(number)
+#[rattlefmt::skip]
+#[test]
+fn texts_are_cut(rt: HostRuntime) -> Result<(), Fail> {
+    use SymKind::{LineRef, Mark, Number, Tail, Text, Token};
+    let alloc = rt.alloc();
+    assert!(rt; cuts(alloc, b"  ", false, &[], false));
+    assert!(rt; cuts(alloc, b"%12 2147483647 007", false, &[off(Number(1), 0, 2), off(Number(2), 2, 3), off(Number(2147483647), 4, 14), off(Number(7), 15, 18)], false));
+    assert!(rt; cuts(alloc, b"&FfG&FFFFFFFF&0080000000", false, &[off(Number(255), 0, 3), off(name(NO_SUFFIX, false), 3, 4), off(Number(-1), 4, 13), off(Number(-2147483648), 13, 24)], false));
+    assert!(rt; cuts(alloc, b"%11111111111111111111111111111110", false, &[off(Number(-2), 0, 33)], false));
+    assert!(rt; cuts(alloc, b"\"\"1\"a\"\"b\"", false, &[off(Text, 0, 2), off(Number(1), 2, 3), off(Text, 3, 9)], false));
+    assert!(rt; cuts(alloc, b"x_1`%(A$(b@%(", false, &[off(name(b'%', true), 0, 6), off(name(b'$', true), 6, 9), off(name(NO_SUFFIX, false), 9, 10), off(name(b'%', false), 10, 12), off(Mark(OPEN_ROUND), 12, 13)], false));
+    assert!(rt; cuts(alloc, b"\xa41x$(\xf2_\xa4 a%$", false, &[off(call(true, true), 0, 5), off(call(false, false), 5, 7), off(Token(0xa4), 7, 8), off(name(b'%', false), 9, 11), off(Mark(DOLLAR), 11, 12)], false));
+    assert!(rt; cuts(alloc, b"\x7f\xcc\xc8\x98\xe5\x8dTJ@,", false, &[off(Token(0x7f), 0, 1), off(Token(0xcc), 1, 2), off(Token(0xc898), 2, 4), off(Token(0xe5), 4, 5), off(LineRef(10), 5, 9), off(Mark(COMMA), 9, 10)], false));
+    assert!(rt; cuts(alloc, b":\xdc", false, &[off(Mark(COLON), 0, 1), off(Token(0xdc), 1, 2), off(Tail, 2, 2)], false));
+    assert!(rt; cuts(alloc, b">>>>= <> <<+=-=+ =>>", false, &[off(Mark(SHIFT_RIGHT), 0, 3), off(Mark(GREATER_OR_EQUAL), 3, 5), off(Mark(NOT_EQUAL), 6, 8), off(Mark(SHIFT_LEFT), 9, 11),
+        off(Mark(PLUS_EQUALS), 11, 13), off(Mark(MINUS_EQUALS), 13, 15), off(Mark(PLUS), 15, 16), off(Mark(EQUALS), 17, 18), off(Mark(SHIFT_RIGHT_SIGNED), 18, 20)], false));
+    assert!(rt; cuts(alloc, b"><=<\xf4 \"a", false, &[off(Mark(GREATER), 0, 1), off(Mark(LESS_OR_EQUAL), 1, 3), off(Mark(LESS), 3, 4), off(Token(0xf4), 4, 5), off(Tail, 5, 8)], false));
+    Ok(())
 }
 
 #[rattlefmt::skip]
 #[test]
-fn numbers_and_strings(rt: HostRuntime) -> Result<(), Fail> {
+fn texts_are_bad(rt: HostRuntime) -> Result<(), Fail> {
     let alloc = rt.alloc();
-    assert!(rt; cuts(alloc, b"%12", &[(number(1), 0, 2), (number(2), 2, 3)]));
-    assert!(rt; cuts(alloc, b"2147483647 007", &[(number(2147483647), 0, 10), (number(7), 11, 14)]));
-    assert!(rt; cuts(alloc, b"&FfG", &[(number(255), 0, 3), (name(0), 3, 4)]));
-    assert!(rt; cuts(alloc, b"&FFFFFFFF&0080000000", &[(number(-1), 0, 9), (number(-2147483648), 9, 20)]));
-    assert!(rt; cuts(alloc, b"\"\"", &[(SymKind::Text, 0, 2)]));
-    assert!(rt; cuts(alloc, b"\"a\"\"b\"1", &[(SymKind::Text, 0, 6), (number(1), 6, 7)]));
-    assert!(rt; is_bad(alloc, b"2147483648", false, 0) && is_bad(alloc, b"1+&100000000", false, 2));
-    assert!(rt; is_bad(alloc, b"&G", false, 0) && is_bad(alloc, b"A%%2", false, 2) && is_bad(alloc, b"@(", false, 0));
+    assert!(rt; is_bad(alloc, b"2147483648", false, 0) && is_bad(alloc, b"1+&100000000", false, 2) && is_bad(alloc, b"%100000000000000000000000000000000", false, 0));
+    assert!(rt; is_bad(alloc, b"&G", false, 0) && is_bad(alloc, b"A%%2", false, 2) && is_bad(alloc, b"@(", false, 0) && is_bad(alloc, b"1.5", false, 1));
     assert!(rt; is_bad(alloc, b"\xf1 \"x", false, 2) && is_bad(alloc, b"\"\"\"", false, 2) && is_bad(alloc, b"\"a\"\"b", false, 3));
-    Ok(())
-}
-
-#[rattlefmt::skip]
-#[test]
-fn names_and_calls(rt: HostRuntime) -> Result<(), Fail> {
-    let alloc = rt.alloc();
-    assert!(rt; cuts(alloc, b"x_1`%(A$(b", &[(array(b'%'), 0, 6), (array(b'$'), 6, 9), (name(0), 9, 10)]));
-    assert!(rt; cuts(alloc, b"a%$ (", &[(name(b'%'), 0, 2), (sign(23), 2, 3), (sign(14), 4, 5)]));
-    assert!(rt; cuts(alloc, b"@%(", &[(name(b'%'), 0, 2), (sign(14), 2, 3)]));
-    assert!(rt; cuts(alloc, b"\xa41x$(\xf2_", &[(call(true, true), 0, 5), (call(false, false), 5, 7)]));
-    assert!(rt; cuts(alloc, b"\xa4 x\xf2", &[(token(0xa4), 0, 1), (name(0), 2, 3), (token(0xf2), 3, 4)]));
-    Ok(())
-}
-
-#[rattlefmt::skip]
-#[test]
-fn tokens_and_signs(rt: HostRuntime) -> Result<(), Fail> {
-    let alloc = rt.alloc();
-    assert!(rt; cuts(alloc, b"", &[]) && cuts(alloc, b"  ", &[]));
-    assert!(rt; cuts(alloc, b"\x7f\xcc\xc8\x98", &[(token(0x7f), 0, 1), (token(0xcc), 1, 2), (token(0xc898), 2, 4)]));
-    assert!(rt; cuts(alloc, b"\xe5\x8dTJ@,", &[(token(0xe5), 0, 1), (SymKind::LineRef(10), 1, 5), (sign(16), 5, 6)]));
-    assert!(rt; cuts(alloc, b"\xf4 \"a", &[(token(0xf4), 0, 1), (SymKind::Tail, 1, 4)]));
-    assert!(rt; cuts(alloc, b":\xdc", &[(sign(18), 0, 1), (token(0xdc), 1, 2), (SymKind::Tail, 2, 2)]));
-    assert!(rt; cuts(alloc, b">>>>= <> <<", &[(sign(11), 0, 3), (sign(8), 3, 5), (sign(6), 6, 8), (sign(9), 9, 11)]));
-    assert!(rt; cuts(alloc, b"+=-=+ =>>", &[(sign(12), 0, 2), (sign(13), 2, 4), (sign(0), 4, 5), (sign(3), 6, 7), (sign(10), 7, 9)]));
-    assert!(rt; cuts(alloc, b"><=<", &[(sign(5), 0, 1), (sign(7), 1, 3), (sign(4), 3, 4)]));
     assert!(rt; is_bad(alloc, b" \x8dTJ", false, 1) && is_bad(alloc, b"1\xc8\xa3", false, 1) && is_bad(alloc, b"\xc6", false, 0));
-    assert!(rt; is_bad(alloc, b"1.5", false, 1) && is_bad(alloc, b"\\", false, 0) && is_bad(alloc, b"\x01", true, 0));
+    assert!(rt; is_bad(alloc, b"\\", false, 0) && is_bad(alloc, b".loop", false, 0));
+    assert!(rt; is_bad(alloc, b"\x01", true, 0) && is_bad(alloc, b".(", true, 0) && is_bad(alloc, b"].", true, 1));
     Ok(())
 }
 
 #[rattlefmt::skip]
 #[test]
 fn the_assembler(rt: HostRuntime) -> Result<(), Fail> {
+    use SymKind::{Label, Mark, Tail, Token};
     let alloc = rt.alloc();
-    assert!(rt; assembles(alloc, b".loop$", &[(SymKind::Label, 0, 5), (sign(23), 5, 6)], true));
-    assert!(rt; assembles(alloc, b".a%(.@%", &[(SymKind::Label, 0, 3), (sign(14), 3, 4), (SymKind::Label, 4, 7)], true));
-    assert!(rt; assembles(alloc, b"a;b:]", &[(name(0), 0, 1)], true) && assembles(alloc, b"\\:]", &[], true));
-    assert!(rt; assembles(alloc, b"\xf4:]", &[], true) && assembles(alloc, b"\xdc;", &[(token(0xdc), 0, 1), (SymKind::Tail, 1, 2)], true));
-    assert!(rt; assembles(alloc, b" ]", &[(sign(26), 1, 2)], false));
-    assert!(rt; assembles(alloc, b"a: ];", &[(name(0), 0, 1), (sign(18), 1, 2), (sign(26), 3, 4), (sign(17), 4, 5)], false));
-    assert!(rt; assembles(alloc, b"[]", &[(sign(25), 0, 1), (sign(26), 1, 2)], true));
-    assert!(rt; in_assembler(alloc, b"[]]", &[false, false, false]) && in_assembler(alloc, b"[a[b]:]", &[false, true, true, true, true, true, false]));
-    assert!(rt; is_bad(alloc, b".(", true, 0) && is_bad(alloc, b".loop", false, 0) && is_bad(alloc, b"].", true, 1));
+    assert!(rt; cuts(alloc, b".loop$.a%(.@%", true, &[on(Label, 0, 5), on(Mark(DOLLAR), 5, 6), on(Label, 6, 9), on(Mark(OPEN_ROUND), 9, 10), on(Label, 10, 13)], true));
+    assert!(rt; cuts(alloc, b"a;b:]", true, &[on(name(NO_SUFFIX, false), 0, 1)], true));
+    assert!(rt; cuts(alloc, b"\\:]", true, &[], true) && cuts(alloc, b"\xf4:]", true, &[], true));
+    assert!(rt; cuts(alloc, b"\xdc;", true, &[on(Token(0xdc), 0, 1), on(Tail, 1, 2)], true));
+    assert!(rt; cuts(alloc, b"a: ];", true, &[on(name(NO_SUFFIX, false), 0, 1), on(Mark(COLON), 1, 2), off(Mark(CLOSE_SQUARE), 3, 4), off(Mark(SEMICOLON), 4, 5)], false));
+    assert!(rt; cuts(alloc, b"[ ]a", true, &[on(Mark(OPEN_SQUARE), 0, 1), on(Mark(CLOSE_SQUARE), 2, 3), on(name(NO_SUFFIX, false), 3, 4)], true));
+    assert!(rt; cuts(alloc, b"[ ]a", false, &[off(Mark(OPEN_SQUARE), 0, 1), off(Mark(CLOSE_SQUARE), 2, 3), off(name(NO_SUFFIX, false), 3, 4)], false));
+    assert!(rt; cuts(alloc, b"[a[]:]", false, &[off(Mark(OPEN_SQUARE), 0, 1), on(name(NO_SUFFIX, false), 1, 2), on(Mark(OPEN_SQUARE), 2, 3), on(Mark(CLOSE_SQUARE), 3, 4), on(Mark(COLON), 4, 5), off(Mark(CLOSE_SQUARE), 5, 6)], false));
+    Ok(())
+}
+
+/// A line of as many symbols as a line can have: one more than its bytes.
+#[test]
+fn the_longest_list(rt: HostRuntime) -> Result<(), Fail> {
+    let mut text = [b':'; LONGEST_TEXT];
+    text[LONGEST_TEXT - 1] = REM;
+    match symbols(rt.alloc(), &text, false) {
+        Ok(run) => {
+            assert_eq!(rt; run.list.len(), LONGEST_TEXT + 1);
+            let last = run.list.as_slice().last();
+            assert!(rt; last == Some(&off(SymKind::Tail, 251, 251)));
+        }
+        Err(_) => assert!(rt; false),
+    }
     Ok(())
 }
