@@ -24,8 +24,7 @@ use Rattle.bv_token.proofs.Lists.{same_head, same_tail}
 use Rattle.bas_lex.proofs.Names.{name_best, call_best, no_call_best, system_best, no_system_name, label_plain, label_system, no_label_name, label_best, no_label, no_label_off}
 use Rattle.bas_lex.proofs.Numbers.{no_digits, too_great, number_best}
 use Rattle.bas_lex.proofs.Texts.{text_best, no_text, last_of}
-use Rattle.bas_lex.proofs.Signs.{no_sign_yet, sign_more, of_table, in_table}
-use Rattle.bas_lex.proofs.Fronts.{best_map}
+use Rattle.bas_lex.proofs.Signs.{no_sign_yet, sign_more}
 use Rattle.bas_lex.proofs.Tokens.{no_pair_alone, no_pair_found, pair_found, no_single_found, single_found, line_ref_best, no_line_ref}
 use Rattle.bas_lex.proofs.Classes.{Class, OfName, OfSystemName, OfText, OfLabel, OfLineRef, OfToken, OfSign, OfCall, OfNumber, class_of, of_class, joined, joined_at, class_name, class_decimal, class_token, class_sign}
 use Rattle.bas_lex.proofs.Pieces.{no_piece, no_piece_at_end, not_at_comment, piece_shortens, takes_symbol}
@@ -189,9 +188,7 @@ signs_on text before (sign ∷ after) a =
     (next.0, subst (λ t. Best (SignsOf t) text next.0) (append_assoc before (sign ∷ []) after) next.1)
 
 sign_of : (text : List ℕ) → Answer Signs text
-sign_of text =
-    let a = signs_on text [] signs (None, no_sign_yet text) in
-    (a.0, best_map (SignsOf signs) Signs text a.0 (λ k bytes rest _ s. of_table k bytes rest s) (λ k bytes rest _ s. in_table k bytes rest s) a.1)
+sign_of text = signs_on text [] signs (None, no_sign_yet text)
 
 -- the longest symbol at the front of a text, or that there is none
 module _ (asm : Bool) (text : List ℕ) (first : ℕ) (after : List ℕ) (text_is : text ≡ first ∷ after) where

@@ -1,7 +1,6 @@
 -- The longest sign, sign by sign of the table.
 use Rattle.std.proofs.Common.{◌≡◌, ◌⊎◌, inl, inr, ℕ, zero, suc, ◌+◌, ◌≤◌, ◌<◌, Bool, true, false, nat_eq, nat_le, if◌then◌else◌, List, [], ◌∷◌, ◌++◌, length, take, drop, get_or, map, slice_get, Option, Some, None, refl, sym, ap, subst, ◌∙◌, arith, true≢false, length-take-le, take_all}
 use Rattle.std.proofs.lemmas.List.{take_more}
-use Rattle.bas_lex.proofs.Fronts.{best_map}
 use Rattle.std.specs.List.{starts_with}
 use Rattle.std.proofs.lemmas.Bool.{leb-true, leb-false}
 use Rattle.std.proofs.lemmas.Bool.Decides.{Decides-eqb}
@@ -103,14 +102,6 @@ pub no_sign_yet : (text : List ℕ) → Best (SignsOf []) text None
 no_sign_yet text (kinds.Mark k) n b = let no : None ≡ Some b.bytes = b.is in cc
 no_sign_yet text kind n b = b.is
 
-pub of_table : (kind : SymKind) (bytes rest : List ℕ) → SignsOf signs kind bytes rest → Signs kind bytes rest
-of_table (kinds.Mark n) bytes rest s = s
-of_table kind bytes rest s = s
-
-pub in_table : (kind : SymKind) (bytes rest : List ℕ) → Signs kind bytes rest → SignsOf signs kind bytes rest
-in_table (kinds.Mark n) bytes rest s = s
-in_table kind bytes rest s = s
-
 -- one sign of the table more
 pub sign_step : (number : ℕ) (sign text : List ℕ) (found result : Option Front) → number < length table_now → sign ≡ get_or table_now number [] → result ≡ longer_sign found number sign text → Best (SignsOf (take number table_now)) text found → Best (SignsOf (take (number + 1) table_now)) text result
 sign_step number sign text found result within sign_is result_is best =
@@ -124,4 +115,4 @@ sign_step number sign text found result within sign_is result_is best =
 pub all_signs : (number : ℕ) (text : List ℕ) (found : Option Front) → length table_now ≤ number → Best (SignsOf (take number table_now)) text found → Best Signs text found
 all_signs number text found past best =
     let whole : take number table_now ≡ signs = take_all number table_now past ∙ same_table in
-    best_map (SignsOf signs) Signs text found (λ k bytes rest _ s. of_table k bytes rest s) (λ k bytes rest _ s. in_table k bytes rest s) (subst (λ t. Best (SignsOf t) text found) whole best)
+    subst (λ t. Best (SignsOf t) text found) whole best

@@ -2,6 +2,7 @@
 use Rattle.std.specs.Prelude.{◌≡◌, ℕ, ◌+◌, ◌-◌, Bool, true, false, ◌||◌, ◌==◌, List, [], ◌∷◌, if◌then◌else◌}
 use Rattle.std.specs.Char.{is_ascii_alphabetic, is_ascii_digit}
 use Rattle.std.specs.Int.{is_in_range}
+use Rattle.bas_lex.specs.declared.number.TheConstants.{NO_DIGIT}
 use Rattle.std.specs.List.{AllByRecursion}
 
 -- the bytes that the definitions name, in ASCII but for the pound sign, which has a place of its own in Acorn's set
@@ -67,13 +68,13 @@ begins_name c = is_ascii_alphabetic c || (c == underscore || c == pound_sign)
 abbrev pub is_in_name : ℕ → Bool
 is_in_name c = begins_name c || is_ascii_digit c
 
--- the value of a digit of base 16 or below, whose letters are of either case; 16 for any other byte
+-- the value of a digit of base 16 or below, whose letters are of either case; that of any other byte no base exceeds
 abbrev pub digit_value : ℕ → ℕ
 digit_value c =
     if is_ascii_digit c then c - digit_0
     else if is_in_range capital_a capital_f c then c - capital_a + 10
     else if is_in_range small_a small_f c then c - small_a + 10
-    else 16
+    else NO_DIGIT
 
 -- each byte passes the test
 abbrev pub Each : (ℕ → Bool) → List ℕ → Type 0

@@ -12,7 +12,7 @@ use Rattle.bas_lex.specs.declared.symbol.SymKind.TheVariants as kinds
 use Rattle.bas_lex.specs.declared.text.Part.{Part}
 use Rattle.bas_lex.specs.declared.text.Part.TheVariants as parts
 use Rattle.bas_lex.specs.Bytes.{quotation_mark, dollar_sign, percent_sign, open_bracket, is_in_name, Each, NotFirst}
-use Rattle.bas_lex.specs.Kinds.{IsSuffix, suffix_bytes, bracket_bytes, IsPlainName, IsSystemName, IsName, IsCall, IsLabel, IsSingle, IsPair, IsNumber, is_digit, value_of, doubled, IsText, IsLineRef, IsSign}
+use Rattle.bas_lex.specs.Kinds.{IsSuffix, suffix_bytes, bracket_bytes, IsPlainName, IsSystemName, IsName, IsCall, IsLabel, IsSingle, IsPair, IsNumber, is_digit, value_of, doubled, IsText, IsLineRef, signs}
 use Rattle.bas_lex.specs.Cut.{Begins, Longest}
 
 -- the longest symbol at the front of a text, or that none begins there
@@ -61,10 +61,14 @@ abbrev pub Tokens : SymKind → List ℕ → List ℕ → Type 0
 Tokens (kinds.Token n) bytes rest = IsSingle n bytes ⊎ IsPair n bytes
 Tokens kind bytes rest = ⊥
 
+-- the signs of a part of the table
+abbrev pub SignsOf : List (List ℕ) → SymKind → List ℕ → List ℕ → Type 0
+SignsOf table (kinds.Mark n) bytes rest = slice_get table n ≡ Some bytes
+SignsOf table kind bytes rest = ⊥
+
 -- signs
 abbrev pub Signs : SymKind → List ℕ → List ℕ → Type 0
-Signs (kinds.Mark n) bytes rest = IsSign n bytes
-Signs kind bytes rest = ⊥
+Signs = SignsOf signs
 
 -- The text has a run of bytes that pass a test, and then a rest that begins with none.
 pub record IsRun (test : ℕ → Bool) (text rest : List ℕ) : Type 0 where
@@ -152,11 +156,6 @@ pub record Closes (text : List ℕ) (size : ℕ) : Type 0 where
 abbrev pub ClosesLast : List ℕ → Option ℕ → Type 0
 ClosesLast text None = (size : ℕ) → Closes text size → ⊥
 ClosesLast text (Some size) = Closes text size × ((other : ℕ) → Closes text other → other ≤ size)
-
--- the signs of a part of the table
-abbrev pub SignsOf : List (List ℕ) → SymKind → List ℕ → List ℕ → Type 0
-SignsOf table (kinds.Mark n) bytes rest = slice_get table n ≡ Some bytes
-SignsOf table kind bytes rest = ⊥
 
 -- the longer of two symbols at the front
 abbrev pub longer_of : Option Front → Front → Option Front

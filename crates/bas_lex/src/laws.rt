@@ -4,7 +4,8 @@ ghost use Rattle.bas_lex.specs.declared.symbol.Sym.{Sym as Symbol};
 ghost use Rattle.bas_lex.specs.Cut.{Symbols, Bad};
 ghost use Rattle.bas_lex.specs.Kinds.{numbered_signs, signs};
 
-/// The law of symbols: every text, of any length, is cut into symbols in exactly one way, or is bad at exactly one place.
+/// The law of symbols: every text, of any length, is cut into symbols in exactly one way, or is bad at exactly one
+/// place.
 pub fn one_cut(text: &[u8], asm: bool)
     ensures cut_or_bad { ((list : List Symbol) × (after : Bool) × Symbols asm text.now list after) ⊎ ((at : ℕ) × Bad asm text.now at) }
     ensures cut_once { (a b : List Symbol) (c d : Bool) → Symbols asm text.now a c → Symbols asm text.now b d → (a ≡ b) × (c ≡ d) }

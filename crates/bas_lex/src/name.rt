@@ -65,8 +65,8 @@ fn split_bracket(text: &[u8]) -> (bool, &[u8])
     }
 }
 
-/// What goes on with a name behind its first byte: a suffix or `NO_SUFFIX`, whether there is a bracket, and the number of
-/// bytes.
+/// What goes on with a name behind its first byte: a suffix or `NO_SUFFIX`, whether there is a bracket, and the number
+/// of bytes.
 #[derive(Clone, Copy, Drop)]
 struct NameEnd {
     suffix: u8,

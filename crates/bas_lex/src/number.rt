@@ -14,6 +14,9 @@ pub enum Radix {
     Binary,
 }
 
+/// The value of a byte that is no digit, which no base exceeds.
+const NO_DIGIT: u64 = 16;
+
 /// The values of decimal digits are below this, so that they are positive numbers.
 const DECIMAL_BOUND: u64 = 0x8000_0000;
 
@@ -56,7 +59,7 @@ impl Radix {
     }
 }
 
-/// The value of a digit of base 16 or below, or 16.
+/// The value of a digit of base 16 or below, or `NO_DIGIT`.
 fn digit_value(byte: u8) -> u64
     ensures { result ≡ digit_value byte }
 {
@@ -64,7 +67,7 @@ fn digit_value(byte: u8) -> u64
         b'0'..=b'9' => u64::from(byte - b'0'),
         b'A'..=b'F' => u64::from(byte - b'A') + 10,
         b'a'..=b'f' => u64::from(byte - b'a') + 10,
-        _ => 16,
+        _ => NO_DIGIT,
     }
 }
 

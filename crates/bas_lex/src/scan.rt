@@ -155,9 +155,9 @@ fn take_piece<'a>(
     }
 }
 
-/// The symbols of a line's text, of at most `LONGEST_TEXT` bytes, that begins with the assembler off or on. Their spans are
-/// in order, only a Tail may be empty, and a symbol's text is its part of the line's (BBC BASIC Reference Manual, variables,
-/// constants, keywords, operators and the assembler).
+/// The symbols of a line's text, of at most `LONGEST_TEXT` bytes, that begins with the assembler off or on. Their spans
+/// are in order, only a Tail may be empty, and a symbol's text is its part of the line's (BBC BASIC Reference Manual,
+/// variables, constants, keywords, operators and the assembler).
 pub fn symbols(alloc: Global, text: &[u8], asm: bool) -> Result<SymbolRun, LexError>
     requires { length text.now ≤ LONGEST_TEXT }
     ensures ok { IfOk result (λ run. Symbols asm text.now run.list run.asm_after) }

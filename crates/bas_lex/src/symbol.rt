@@ -60,7 +60,8 @@ pub enum LexError {
 pub struct Mode {
     /// Whether the assembler is on.
     pub asm: bool,
-    /// Whether a statement begins here: at the start of a line, behind `:`, or behind the `[` that turned the assembler on.
+    /// Whether a statement begins here: at the start of a line, behind `:`, or behind the `[` that turned the assembler
+    /// on.
     pub start: bool,
 }
 

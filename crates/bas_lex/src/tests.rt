@@ -11,8 +11,8 @@ use bv_token::{LONGEST_TEXT, REM};
 use std::alloc::Global;
 use std::test::Fail;
 
-/// Whether the text, which begins with the assembler off or on, has these symbols and no others, and the assembler is off
-/// or on behind it.
+/// Whether the text, which begins with the assembler off or on, has these symbols and no others, and the assembler is
+/// off or on behind it.
 fn cuts(alloc: Global, text: &[u8], asm: bool, want: &[Sym], asm_after: bool) -> bool {
     if text.len() > LONGEST_TEXT {
         return false;

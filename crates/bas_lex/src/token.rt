@@ -36,7 +36,7 @@ fn read_pair(first: u8, after: &[u8]) -> Option<Front>
         return None;
     }
     Some(Front {
-        kind: SymKind::Token(256 * u16::from(first) + u16::from(second)),
+        kind: SymKind::Token(u16::from_be_bytes([first, second])),
         size: 2,
     })
 }

@@ -1,5 +1,5 @@
--- References to lines, as Acorn's BASIC V writes a line number behind GOTO and its like: the byte 0x8d and three bytes, all
--- of them from 0x40 to 0x7f, so that a reference holds no byte that could be taken for a line's end.
+-- References to lines, as Acorn's BASIC V writes a line number behind GOTO and its like: the byte 0x8d and three bytes,
+-- all of them from 0x40 to 0x7f, so that a reference holds no byte that could be taken for a line's end.
 use Rattle.std.specs.Prelude.{ℕ, ◌+◌, ◌*◌, ◌/◌, ◌%◌, List, [], ◌∷◌, bit_and, bit_or, bit_xor}
 
 -- the three bytes of a line number: first the top two bits of its low and of its high byte, with some bits turned, then

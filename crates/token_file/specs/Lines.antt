@@ -1,13 +1,13 @@
--- The records of a tokenised BASIC V file, as Acorn's interpreter keeps a program: a line is the byte `RECORD_START`, its
--- number with the high byte first, the record's length, and its text.
+-- The records of a tokenised BASIC V file, as Acorn's interpreter keeps a program: a line is the byte `RECORD_START`,
+-- its number with the high byte first, the record's length, and its text.
 use Rattle.std.specs.Prelude.{◌≡◌, ◌≢◌, ℕ, ◌+◌, ◌/◌, ◌%◌, ◌<◌, ◌≤◌, List, [], ◌∷◌, ◌++◌, length, flat_map}
 use Rattle.std.specs.List.{AllByRecursion}
 use Rattle.token_file.specs.declared.line.Line.{Line}
 use Rattle.bv_token.specs.declared.line.TheConstants.{LONGEST_TEXT}
 use Rattle.token_file.specs.declared.line.TheConstants.{RECORD_START, END_MARK, HEAD_BYTES, LINE_NUMBERS}
 
--- the bytes of a line: the byte that begins a record, the number with its high byte first, the length of the head and the
--- text together, the text
+-- the bytes of a line: the byte that begins a record, the number with its high byte first, the length of the head and
+-- the text together, the text
 abbrev pub record_of : Line → List ℕ
 record_of line = RECORD_START ∷ (line.number / 256) ∷ (line.number % 256) ∷ (length line.text + HEAD_BYTES) ∷ line.text
 

@@ -7,7 +7,8 @@ pub const RECORD_START: u8 = 13;
 /// The byte that stands behind `RECORD_START` at the program's end. It is no line number's high byte.
 pub const END_MARK: u8 = 0xff;
 
-/// The number of bytes before a record's text: `RECORD_START`, two for the line's number, and one for the record's length.
+/// The number of bytes before a record's text: `RECORD_START`, two of the line's number, and one of the record's
+/// length.
 pub const HEAD_BYTES: u8 = 4;
 
 /// Line numbers are below this, since their high byte is below `END_MARK`.

@@ -9,4 +9,4 @@ pub returns-then-not-has_keyword : goal.returns-then-not-has_keyword
 returns-then-not-has_keyword c = no_pair_found _ _ _ _ _ c.requires c.in-Some.ensures c.has_keyword.ensures (search rules)
 
 pub returns : goal.returns
-returns c = pair_found _ c.in-Some.second _ _ _ _ c.requires c.in-Some.ensures c.has_keyword.ensures (search rules) (omega (arith, c.from.ensures, c.from-2.ensures))
+returns c = pair_found _ c.in-Some.second _ _ _ _ c.requires c.in-Some.ensures c.has_keyword.ensures (search rules) (omega (arith, c.from_be_bytes.ensures))
