@@ -1,21 +1,22 @@
 -- The laws at work: a few instructions at the PC, by their words.
 use Rattle.std.proofs.Common.{length, ◌*◌, ◌-◌, ◌≤◌, ◌∷◌, [], None, ◌≡◌, ℕ, ◌+◌, ◌%◌, ◌^◌, ◌<◌, not, true, false, List, Some, refl, ◌∙◌, ap, arith}
-use Rattle.arm_isa.specs.declared.instruction.Instr.TheVariants.{Block, Data, Swi}
+use Rattle.arm_isa.specs.declared.instruction.Instr.TheVariants.{Block, Data, Single, Swi}
 use Rattle.arm_isa.specs.Words.{word_of}
 use Rattle.arm_isa.proofs.ValidLaws.{valid-data_immediate}
 use Rattle.arm_isa.proofs.ValidTest.{valid_by_test}
 use Rattle.arm_isa.proofs.ImmediateLaws.{immediate_value-byte}
 use Rattle.arm2_cpu.specs.declared.event.CpuEvent.TheVariants as events
 use Rattle.arm2_cpu.specs.declared.regs.Regs.{Regs}
-use Rattle.arm2_cpu.specs.Memory.{Space, read_word, with_word}
+use Rattle.arm2_cpu.specs.Memory.{Space, read_word, word_at, with_word}
 use Rattle.arm2_cpu.specs.Registers.{register, with_register, at_next, jumped}
 use Rattle.arm2_cpu.specs.Step.{cpu_step}
 use Rattle.arm2_cpu.specs.declared.regs.TheConstants.{PC_END}
 use Rattle.arm2_cpu.specs.Block.{registers_among, registers_in, next_word, refused_word, with_block}
-use Rattle.arm2_cpu.specs.Access.{moved}
+use Rattle.arm2_cpu.specs.Access.{moved, offset_of}
 use Rattle.arm2_cpu.proofs.RegisterLaws.{holds-always}
 use Rattle.arm2_cpu.proofs.StepBasics.{goes, fetches_word}
-use Rattle.arm2_cpu.proofs.TransferLaws.{step-stm, moved-down, with_block-more, with_block-none, refused-more, refused-none}
+use Rattle.arm2_cpu.proofs.TransferLaws.{step-ldr, step-stm, offset-lsl, fine-offset_lsl, moved-up, moved-down, with_block-more, with_block-none, refused-more, refused-none}
+use Rattle.arm2_cpu.proofs.ValueLaws.{first-register}
 use Rattle.arm2_cpu.proofs.StepLaws.{step-mov_immediate, step-data_immediate, step-jump_register, step-swi}
 
 -- MOV Rd,#n, of a byte
@@ -32,7 +33,19 @@ add_one : (s : Space) (r : Regs) (bytes : List ℕ) → register r 0 < 2 ^ 32
     → cpu_step s r bytes ≡ goes (at_next (with_register r 0 ((register r 0 + 1) % 2 ^ 32))) bytes
 unfolding word_of
 add_one s r bytes small word =
-    step-data_immediate s r bytes 14 4 0 0 1 (fetches_word (Data 14 true 4 false 0 0 1) (valid_by_test _ refl) word) (holds-always r) refl (omega arith) (omega arith) small (omega arith)
+    step-data_immediate s r bytes 14 4 0 0 1 (fetches_word (Data 14 true 4 false 0 0 1) (valid_by_test _ refl) word) (holds-always r) refl (omega arith) (omega arith) small
+
+-- LDR R0,[R1,R2,LSL #2]: the word that an index of words leads to
+load_indexed : (s : Space) (r : Regs) (bytes : List ℕ) (base index : ℕ) → register r 1 ≡ base → register r 2 ≡ index
+    → base % 4 ≡ 0 → base + 4 * index < PC_END → s.allows (not r.svc) (base + 4 * index) ≡ true
+    → read_word s bytes (not r.svc) r.pc ≡ Some 0xe7910102
+    → cpu_step s r bytes ≡ goes (at_next (with_register r 0 (word_at s bytes (base + 4 * index)))) bytes
+unfolding word_of
+load_indexed s r bytes base index is_base is_index aligned low allowed word =
+    let offset : offset_of r true 258 ≡ 4 * index = offset-lsl r 2 2 (omega arith) (omega arith) (omega arith) ∙ omega (arith, is_index, low) in
+    let place = (λ i. moved true ((first-register r 8 1 (omega arith) ∙ is_base) i) (offset i)) ∙ moved-up base (4 * index) (omega (arith, low)) in
+    step-ldr s r bytes 14 true true 1 0 258 (base + 4 * index) (fetches_word (Single 14 true true true false false true 1 0 258) (valid_by_test _ refl) word) (holds-always r)
+    (fine-offset_lsl 2 2 (omega arith)) (omega arith) place (omega (arith, aligned)) low allowed
 
 -- MOV PC,R14
 return : (s : Space) (r : Regs) (bytes : List ℕ)

@@ -1,13 +1,14 @@
 mod ShiftLaws
 mod OperandLaws
 mod ProductLaws
-mod BranchLaws
+pub mod BranchLaws
 mod MemoryReads
 pub mod MemoryLaws
 mod BlockLaws
 mod BlockLoops
 pub mod RegisterLaws
 pub mod StepBasics
+pub mod ShiftValues
 pub mod ValueLaws
 pub mod StepLaws
 pub mod TransferLaws

@@ -1,9 +1,9 @@
 -- Reads and writes of a memory.
-use Rattle.std.proofs.Common.{◌≡◌, ℕ, suc, ◌+◌, ◌-◌, ◌*◌, ◌/◌, ◌%◌, ◌^◌, ◌<◌, ◌≤◌, ◌⊎◌, List, [], ◌∷◌, ◌++◌, length, take, drop, get_or, slice_index, slice_set, inl, inr, ⊎_elim, sym, ap, ◌∙◌, arith, append_assoc, length-append}
+use Rattle.std.proofs.Common.{◌≡◌, ℕ, suc, ◌+◌, ◌-◌, ◌*◌, ◌/◌, ◌%◌, ◌^◌, ◌<◌, ◌≤◌, ◌⊎◌, Bool, true, Some, refl, List, [], ◌∷◌, ◌++◌, length, take, drop, get_or, slice_index, slice_set, inl, inr, ⊎_elim, sym, ap, ◌∙◌, arith, append_assoc, length-append}
 use Rattle.std.proofs.Math.Seq.{sets, length-sets}
 use Rattle.std.proofs.lemmas.List.{length-take-le, get_or_append_left, get_or-append-add, get_or-append_right, get_or-take, get_or-drop}
 use Rattle.std.proofs.lemmas.List.Edits.{sets-eq}
-use Rattle.arm2_cpu.specs.Memory.{Space, byte_at, word_at, word_bytes, with_bytes, with_byte, with_word}
+use Rattle.arm2_cpu.specs.Memory.{Space, byte_at, word_at, word_bytes, with_bytes, with_byte, with_word, read_word}
 
 -- a list with other items in its midst
 in_front : (l new : List ℕ) (i k d : ℕ) → i + length new ≤ length l → k < i → get_or (take i l ++ new ++ drop (i + length new) l) k d ≡ get_or l k d
@@ -52,6 +52,15 @@ with_word_by_sets s bytes at i value is fits =
 -- a memory keeps its size
 pub length-with_bytes : (s : Space) (bytes : List ℕ) (at : ℕ) (new : List ℕ) → at - s.base + length new ≤ length bytes → length (with_bytes s bytes at new) ≡ length bytes
 length-with_bytes s bytes at new fits = ap length (with_bytes_by_sets s bytes at new fits) ∙ length-sets bytes (at - s.base) new
+
+-- a word that a mode may read, and its four bytes
+pub read-word : (s : Space) (bytes : List ℕ) (user : Bool) (at : ℕ) → s.allows user at ≡ true → read_word s bytes user at ≡ Some (word_at s bytes at)
+unfolding read_word
+read-word s bytes user at allowed = rw allowed refl
+
+pub word-by_bytes : (s : Space) (bytes : List ℕ) (at : ℕ) → word_at s bytes at ≡ byte_at s bytes at + byte_at s bytes (at + 1) * 2 ^ 8 + byte_at s bytes (at + 2) * 2 ^ 16 + byte_at s bytes (at + 3) * 2 ^ 24
+unfolding word_at
+word-by_bytes s bytes at = refl
 
 -- bytes elsewhere stay
 pub byte_kept : (s : Space) (bytes : List ℕ) (at : ℕ) (new : List ℕ) (a : ℕ) → at - s.base + length new ≤ length bytes → (a - s.base < at - s.base) ⊎ (at - s.base + length new ≤ a - s.base) → byte_at s (with_bytes s bytes at new) a ≡ byte_at s bytes a

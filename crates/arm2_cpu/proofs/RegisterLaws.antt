@@ -1,11 +1,12 @@
 -- Registers and flags that are read after a write.
-use Rattle.std.proofs.Common.{◌≡◌, ◌≢◌, ℕ, ◌<◌, ◌==◌, ◌&&◌, not, Bool, true, false, if◌then◌else◌, length, slice_index, slice_set, nat_lt, refl, sym, ap, ◌∙◌, arith, ltb-true, ltb-false, eqb-true, get_or-set_same, length-set}
+use Rattle.std.proofs.Common.{◌≡◌, ◌≢◌, ℕ, ◌+◌, ◌*◌, ◌/◌, ◌%◌, ◌^◌, ◌<◌, ◌≤◌, ◌==◌, ◌&&◌, not, Bool, true, false, if◌then◌else◌, length, slice_index, slice_set, nat_lt, refl, sym, ap, ◌∙◌, arith, ltb-true, ltb-false, eqb-true, get_or-set_same, length-set}
 use Rattle.std.proofs.lemmas.Bool.{eqb-false}
 use Rattle.std.proofs.lemmas.List.{get_or-set_other}
 use Rattle.arm_isa.proofs.FieldLemmas.{from_bool-lt, flag_of}
 use Rattle.arm2_cpu.specs.declared.regs.Regs.{Regs}
-use Rattle.arm2_cpu.specs.Conditions.{negative, zero_flag, carry, overflow, same, even_condition, holds, with_flags}
-use Rattle.arm2_cpu.specs.Registers.{banked, with_banked, register, with_register}
+use Rattle.arm2_cpu.specs.declared.regs.TheConstants.{PC_END}
+use Rattle.arm2_cpu.specs.Conditions.{has_bit, negative, zero_flag, carry, overflow, same, even_condition, holds, with_flags}
+use Rattle.arm2_cpu.specs.Registers.{IsValidRegs, banked, with_banked, register, with_register, mode, pc_ahead, r15, jumped}
 
 -- the two choices that find a register
 abbrev look : Bool → Bool → Bool → Regs → ℕ → ℕ
@@ -188,6 +189,41 @@ register-at_pc r pc m = refl
 pub holds-at_pc : (cond : ℕ) (r : Regs) (pc : ℕ) → holds cond (record r { pc = pc }) ≡ holds cond r
 unfolding holds even_condition
 holds-at_pc cond r pc = refl
+
+-- a condition depends on the flags alone, and no register changes them
+pub holds-by_psr : (cond : ℕ) (q r : Regs) → q.psr ≡ r.psr → holds cond q ≡ holds cond r
+unfolding holds even_condition
+holds-by_psr cond q r same = ap (λ psr. holds cond (record r { psr = psr })) same
+
+pub holds-with_register : (cond : ℕ) (r : Regs) (n value : ℕ) → holds cond (with_register r n value) ≡ holds cond r
+holds-with_register cond r n value = holds-by_psr cond (with_register r n value) r (psr-with_register r n value)
+
+pub flag-with_register : (at : ℕ) (r : Regs) (n value : ℕ) → has_bit (with_register r n value).psr at ≡ has_bit r.psr at
+flag-with_register at r n value = ap (λ psr. has_bit psr at) (psr-with_register r n value)
+
+mode_few : (svc : Bool) → mode svc ≤ 3
+mode_few true = omega arith
+mode_few false = omega arith
+
+-- R15: the PC and the mode are below 2^26, the whole is a word, and a jump to it goes to its PC
+pub r15-pc_lt : (r : Regs) (ahead : ℕ) → IsValidRegs r → ahead % 4 ≡ 0 → pc_ahead r ahead + mode r.svc < PC_END
+r15-pc_lt r ahead valid whole = let aligned = valid.aligned in let few = mode_few r.svc in omega (arith, aligned, whole, few)
+
+pub r15-lt : (r : Regs) (ahead : ℕ) → IsValidRegs r → ahead % 4 ≡ 0 → r15 r ahead < 2 ^ 32
+unfolding r15
+r15-lt r ahead valid whole = let part = r15-pc_lt r ahead valid whole in let flags = valid.psr in omega (arith, part, flags)
+
+pub r15-jump : (q r : Regs) (ahead : ℕ) → IsValidRegs r → ahead % 4 ≡ 0 → jumped q (r15 r ahead) ≡ record q { pc = pc_ahead r ahead }
+unfolding r15
+r15-jump q r ahead valid whole =
+    let part = r15-pc_lt r ahead valid whole in
+    let aligned = valid.aligned in
+    let few = mode_few r.svc in
+    (λ i. record q { pc = (let e : r15 r ahead % PC_END / 4 * 4 ≡ pc_ahead r ahead = omega (arith, part, aligned, whole, few) in e) i })
+
+pub r15-at_pc : (r : Regs) (pc ahead : ℕ) → r15 (record r { pc = pc }) ahead ≡ r.psr * 2 ^ 26 + (pc + ahead) % PC_END + mode r.svc
+unfolding r15
+r15-at_pc r pc ahead = refl
 
 -- the conditions by the flags
 pub holds-always : (r : Regs) → holds 14 r ≡ true

@@ -5,6 +5,7 @@ use Rattle.std.proofs.lemmas.Int.{ints}
 use Rattle.std.specs.Int.{w32, cast_signed}
 use Rattle.arm2_cpu.specs.Conditions.{has_bit, same}
 use Rattle.arm2_cpu.specs.Operations.{is_signed_word}
+use Rattle.arm2_cpu.proofs.ShiftValues.{sign-low, sign-high}
 use Rattle.arm2_cpu.proofs.ValueLaws.{minus, signed-low, signed-high}
 
 in_range : (z : ℤ) → neg_ℤ (pos 2147483648) ≤ℤ z → z <ℤ pos 2147483648 → is_signed_word z ≡ true
@@ -18,12 +19,6 @@ above (negsuc n) h = absurd (omega (arith, ints, h))
 below : (z : ℤ) → z <ℤ neg_ℤ (pos 2147483648) → is_signed_word z ≡ false
 below (pos n) h = absurd (omega (arith, ints, h))
 below (negsuc n) h = le-ltb n (2 ^ 31) (omega (arith, ints, h))
-
-sign-low : (n : ℕ) → n < 2 ^ 31 → has_bit n 31 ≡ false
-sign-low n low = ne_eqb (n / 2 ^ 31 % 2) 1 (λ e. omega (arith, e, low))
-
-sign-high : (n : ℕ) → 2 ^ 31 ≤ n → n < 2 ^ 32 → has_bit n 31 ≡ true
-sign-high n high small = eq-eqb (n / 2 ^ 31 % 2) 1 (omega (arith, high, small))
 
 -- GE of a comparison
 abbrev ge : ℕ → ℤ → Bool

@@ -1,12 +1,13 @@
 -- One instruction at the PC, for each form that generated code uses: exactly these registers and this memory.
-use Rattle.std.proofs.Common.{◌≡◌, ℕ, ◌^◌, ◌<◌, ◌==◌, ◌||◌, ◌&&◌, not, Bool, true, false, if◌then◌else◌, List, ℤ, refl, ap, ◌∙◌, arith}
-use Rattle.std.proofs.lemmas.Bool.{ne_eqb}
+use Rattle.std.proofs.Common.{◌≡◌, ℕ, ◌+◌, ◌%◌, ◌^◌, ◌<◌, ◌==◌, ◌||◌, ◌&&◌, not, Bool, true, false, if◌then◌else◌, List, ℤ, refl, ap, ◌∙◌, arith}
+use Rattle.std.proofs.Math.Bool.{and-false}
 use Rattle.arm_isa.specs.declared.instruction.Instr.TheVariants.{Data, Branch, Swi}
 use Rattle.arm_isa.specs.Fields.{bits}
 use Rattle.arm_isa.specs.Immediates.{immediate_value}
+use Rattle.arm_isa.proofs.ImmediateLaws.{immediate_value-lt}
 use Rattle.arm2_cpu.specs.declared.event.CpuEvent.TheVariants as events
 use Rattle.arm2_cpu.specs.declared.operations.Computed.{Computed}
-use Rattle.arm2_cpu.specs.declared.operations.TheConstants.{CMP, MOV}
+use Rattle.arm2_cpu.specs.declared.operations.TheConstants.{SUB, ADD, CMP, MOV}
 use Rattle.arm2_cpu.specs.declared.regs.Regs.{Regs}
 use Rattle.arm2_cpu.specs.declared.regs.TheConstants.{R15}
 use Rattle.arm2_cpu.specs.declared.shifts.Shifted.{Shifted}
@@ -21,20 +22,12 @@ use Rattle.arm2_cpu.specs.Registers.{register, with_register, r15, at_next, jump
 use Rattle.arm2_cpu.specs.Step.{class_step, cpu_step}
 use Rattle.arm2_cpu.specs.Unpredictable.{is_open_data, is_unpredictable}
 use Rattle.arm2_cpu.proofs.StepBasics.{Fetches, goes, step-skipped, step-by_class}
-use Rattle.arm2_cpu.proofs.ValueLaws.{not_r15, value_of, compared, value-computed, computed-cmp, first-register, second-immediate, second-plain}
+use Rattle.arm2_cpu.proofs.ValueLaws.{not_r15, minus, value_of, compared, summed, value-computed, computed-cmp, computed-sub, computed-add, first-register, second-immediate, plain_is_amount, second-plain}
 
 -- a register takes a value
 pub loaded-register : (r : Regs) (rd value : ℕ) → rd < 15 → loaded r rd value ≡ at_next (with_register r rd value)
 unfolding loaded
 loaded-register r rd value low = rw (not_r15 rd low) refl
-
-and_false : (a b : Bool) → b ≡ false → (a && b) ≡ false
-and_false true b e = e
-and_false false b e = refl
-
-and_false_right : (a : Bool) → (a && false) ≡ false
-and_false_right true = refl
-and_false_right false = refl
 
 -- ---- data processing
 
@@ -82,13 +75,10 @@ step-data s r bytes cond imm op rn rd op2 a b f meets no_test no_register low fi
 -- the same with an immediate, from a register
 pub step-data_immediate : (s : Space) (r : Regs) (bytes : List ℕ) (cond op rn rd op2 : ℕ)
     → Fetches s r bytes (Data cond true op false rn rd op2) → holds cond r ≡ true → is_test op ≡ false → rn < 15 → rd < 15
-    → register r rn < 2 ^ 32 → immediate_value op2 < 2 ^ 32
+    → register r rn < 2 ^ 32
     → cpu_step s r bytes ≡ goes (at_next (with_register r rd (value_of op (register r rn) (immediate_value op2) (carry r)))) bytes
-step-data_immediate s r bytes cond op rn rd op2 f meets no_test from low small below =
-    step-data s r bytes cond true op rn rd op2 (register r rn) (immediate_value op2) f meets no_test refl low (first-register r 8 rn from) (second-immediate r op2) small below
-
-plain_is_amount : (rm : ℕ) → rm < 15 → by_register false rm ≡ false
-plain_is_amount rm low = ne_eqb (bits rm 4 4) 1 (λ e. omega (arith, e, low))
+step-data_immediate s r bytes cond op rn rd op2 f meets no_test from low small =
+    step-data s r bytes cond true op rn rd op2 (register r rn) (immediate_value op2) f meets no_test refl low (first-register r 8 rn from) (second-immediate r op2) small (immediate_value-lt op2)
 
 -- the same with a register that isn't shifted
 pub step-data_register : (s : Space) (r : Regs) (bytes : List ℕ) (cond op rn rd rm : ℕ)
@@ -130,7 +120,7 @@ pub step-data_by_register : (s : Space) (r : Regs) (bytes : List ℕ) (cond op r
     → cpu_step s r bytes ≡ goes (at_next (with_register r rd (value_of op (register r rn) b (carry r)))) bytes
 step-data_by_register s r bytes cond op rn rd op2 b f meets no_test amount from low second small below =
     let one = first-register r (ahead_of false op2) rn from in
-    data_by_class s r bytes cond false op false rn rd op2 f meets (λ i. (no_test i && not false) || and_false (by_register false op2) (bits op2 11 8 == R15) amount i)
+    data_by_class s r bytes cond false op false rn rd op2 f meets (λ i. (no_test i && not false) || (ap (λ t. by_register false op2 && t) amount ∙ and-false (by_register false op2)) i)
     ∙ ap (with_memory bytes) (data_plain r false op rn rd op2 no_test low)
     ∙ ap (λ v. goes (at_next (with_register r rd v)) bytes)
     (value-computed op (first_operand r (ahead_of false op2) rn) (second_operand r false op2) (carry r) (overflow r) (omega (arith, one, small)) (omega (arith, second, below))
@@ -150,9 +140,33 @@ pub step-data_flags : (s : Space) (r : Regs) (bytes : List ℕ) (cond : ℕ) (im
     → outcome r imm op rn op2 ≡ x
     → cpu_step s r bytes ≡ goes (at_next (with_register (flagged x r) rd x.value)) bytes
 step-data_flags s r bytes cond imm op rn rd op2 x f meets no_test no_register low is =
-    data_by_class s r bytes cond imm op true rn rd op2 f meets (not_open imm op true op2 (and_false_right (is_test op)) no_register)
+    data_by_class s r bytes cond imm op true rn rd op2 f meets (not_open imm op true op2 (and-false (is_test op)) no_register)
     ∙ ap (with_memory bytes) (data_flagged r imm op rn rd op2 no_test low)
     ∙ ap (λ y. goes (at_next (with_register (flagged y r) rd y.value)) bytes) is
+
+-- the outcome by its operands
+pub outcome-of : (r : Regs) (imm : Bool) (op rn op2 a : ℕ) (b : Shifted) → by_register imm op2 ≡ false → first_operand r 8 rn ≡ a → second_operand r imm op2 ≡ b
+    → outcome r imm op rn op2 ≡ computed op a b (carry r) (overflow r)
+outcome-of r imm op rn op2 a b no_register first second = (λ i. computed op (first_at r imm rn op2 a no_register first i) (second i) (carry r) (overflow r))
+
+-- ADDS: N and Z by the sum, C where it passes 32 bits, V where the signed sum is out of range
+pub step-adds : (s : Space) (r : Regs) (bytes : List ℕ) (cond : ℕ) (imm : Bool) (rn rd op2 a b : ℕ)
+    → Fetches s r bytes (Data cond imm ADD true rn rd op2) → holds cond r ≡ true → by_register imm op2 ≡ false → rd < 15
+    → first_operand r 8 rn ≡ a → (second_operand r imm op2).value ≡ b
+    → cpu_step s r bytes ≡ goes (at_next (with_register (flagged (summed a b) r) rd ((a + b) % 2 ^ 32))) bytes
+step-adds s r bytes cond imm rn rd op2 a b f meets no_register low first second =
+    step-data_flags s r bytes cond imm ADD rn rd op2 (summed a b) f meets refl no_register low
+    (outcome-of r imm ADD rn op2 a (second_operand r imm op2) no_register first refl ∙ computed-add a (second_operand r imm op2) (carry r) (overflow r) ∙ ap (summed a) second)
+
+-- SUBS: N and Z by the difference, C where nothing is borrowed, V where the signed difference is out of range
+pub step-subs : (s : Space) (r : Regs) (bytes : List ℕ) (cond : ℕ) (imm : Bool) (rn rd op2 a b : ℕ)
+    → Fetches s r bytes (Data cond imm SUB true rn rd op2) → holds cond r ≡ true → by_register imm op2 ≡ false → rd < 15
+    → first_operand r 8 rn ≡ a → (second_operand r imm op2).value ≡ b → a < 2 ^ 32 → b < 2 ^ 32
+    → cpu_step s r bytes ≡ goes (at_next (with_register (flagged (compared a b) r) rd (minus a b))) bytes
+step-subs s r bytes cond imm rn rd op2 a b f meets no_register low first second small below =
+    step-data_flags s r bytes cond imm SUB rn rd op2 (compared a b) f meets refl no_register low
+    (outcome-of r imm SUB rn op2 a (second_operand r imm op2) no_register first refl
+    ∙ computed-sub a (second_operand r imm op2) (carry r) (overflow r) small (omega (arith, second, below)) ∙ ap (compared a) second)
 
 data_tested : (r : Regs) (imm : Bool) (op : ℕ) (flags : Bool) (rn rd op2 : ℕ) → is_test op ≡ true → rd < 15
     → data_step r imm op flags rn rd op2 ≡ ran (at_next (flagged (outcome r imm op rn op2) r))
@@ -165,7 +179,7 @@ pub step-test : (s : Space) (r : Regs) (bytes : List ℕ) (cond : ℕ) (imm : Bo
     → outcome r imm op rn op2 ≡ x
     → cpu_step s r bytes ≡ goes (at_next (flagged x r)) bytes
 step-test s r bytes cond imm op rn rd op2 x f meets test no_register low is =
-    data_by_class s r bytes cond imm op true rn rd op2 f meets (not_open imm op true op2 (and_false_right (is_test op)) no_register)
+    data_by_class s r bytes cond imm op true rn rd op2 f meets (not_open imm op true op2 (and-false (is_test op)) no_register)
     ∙ ap (with_memory bytes) (data_tested r imm op true rn rd op2 test low)
     ∙ ap (λ y. goes (at_next (flagged y r)) bytes) is
 

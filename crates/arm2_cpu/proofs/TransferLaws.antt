@@ -1,46 +1,78 @@
 -- One instruction at the PC that multiplies, or that reads or writes memory: exactly these registers and this memory.
 use Rattle.std.proofs.Common.{◌-◌, ◌≤◌, ◌≡◌, ℕ, suc, ◌+◌, ◌*◌, ◌%◌, ◌^◌, ◌<◌, ◌==◌, ◌||◌, ◌&&◌, not, Bool, true, false, if◌then◌else◌, List, [], ◌∷◌, length, Option, Some, None, refl, sym, ap, ◌∙◌, arith, lt-ltb}
+use Rattle.std.proofs.Math.Bool.{or-false}
+use Rattle.std.proofs.lemmas.Bool.{ne_eqb}
 use Rattle.arm_isa.specs.declared.instruction.Instr.TheVariants.{Mul, Single, Block}
 use Rattle.arm_isa.specs.Fields.{bits}
 use Rattle.arm_isa.specs.Immediates.{rotated}
+use Rattle.arm2_cpu.specs.declared.operations.Computed.{Computed}
 use Rattle.arm2_cpu.specs.declared.regs.Regs.{Regs}
 use Rattle.arm2_cpu.specs.declared.regs.TheConstants.{PC_END, R15}
+use Rattle.arm2_cpu.specs.declared.shifts.Shifted.{Shifted}
 use Rattle.arm2_cpu.specs.Access.{moved, offset_of, single_access, block_access, with_base_taking, can_use}
 use Rattle.arm2_cpu.specs.Block.{registers_in, low_registers_in, next_word, refused_word, stored_value, with_block, with_words, store_block, load_block, load_with_r15, block_step}
-use Rattle.arm2_cpu.specs.Conditions.{has_bit, same, holds}
-use Rattle.arm2_cpu.specs.Data.{loaded}
+use Rattle.arm2_cpu.specs.Conditions.{has_bit, same, carry, overflow, holds}
+use Rattle.arm2_cpu.specs.Data.{flagged, loaded}
 use Rattle.arm2_cpu.specs.Memory.{Space, word_at, byte_at, with_word, with_byte, word_address}
 use Rattle.arm2_cpu.specs.Multiply.{product, multiplied, multiply_step}
-use Rattle.arm2_cpu.specs.Operands.{first_operand, whole_operand}
+use Rattle.arm2_cpu.specs.Operands.{first_operand, whole_operand, amount_operand}
 use Rattle.arm2_cpu.specs.Registers.{register, with_banked, with_register, at_next, jumped}
+use Rattle.arm2_cpu.specs.Shifts.{shifted_by_field}
 use Rattle.arm2_cpu.specs.Single.{read_unit, with_unit, can_transfer, load_single, store_single, single_step}
 use Rattle.arm2_cpu.specs.Step.{class_step, cpu_step}
 use Rattle.arm2_cpu.specs.Unpredictable.{is_open_multiply, is_open_single, is_open_block, is_unpredictable}
 use Rattle.arm2_cpu.proofs.StepBasics.{Fetches, goes, step-by_class}
 use Rattle.arm2_cpu.proofs.StepLaws.{loaded-register}
-use Rattle.arm2_cpu.proofs.ValueLaws.{not_r15, first-register, whole-register}
+use Rattle.arm2_cpu.proofs.ValueLaws.{not_r15, first-register, whole-register, amount-shifted, amount-plain, amount-lsl}
 
 -- ---- multiplication
 
 multiply_fine : (rd rn rs rm : ℕ) → rd < 15 → rn < 15 → rs < 15 → rm < 15 → (rd == rm) ≡ false → is_open_multiply rd rn rs rm ≡ false
 multiply_fine rd rn rs rm d n s m apart = (λ i. apart i || not_r15 rd d i || not_r15 rn n i || not_r15 rs s i || not_r15 rm m i)
 
--- MUL without S
+-- MUL or MLA
+multiply_by_class : (s : Space) (r : Regs) (bytes : List ℕ) (cond : ℕ) (acc flags : Bool) (rd rn rs rm : ℕ)
+    → Fetches s r bytes (Mul cond acc flags rd rn rs rm) → holds cond r ≡ true → rd < 15 → rn < 15 → rs < 15 → rm < 15 → (rd == rm) ≡ false
+    → cpu_step s r bytes ≡ goes (multiplied r flags rd (product r acc rn rs rm)) bytes
+unfolding class_step is_unpredictable multiply_step
+multiply_by_class s r bytes cond acc flags rd rn rs rm f meets d n t m apart =
+    step-by_class s r bytes (Mul cond acc flags rd rn rs rm) f meets (multiply_fine rd rn rs rm d n t m apart)
+
+plain_product : (r : Regs) (rn rs rm : ℕ) → product r false rn rs rm ≡ register r rm * register r rs % 2 ^ 32
+unfolding product
+plain_product r rn rs rm = ap (λ k. k % 2 ^ 32) (let e : register r rm * register r rs + 0 ≡ register r rm * register r rs = omega arith in e)
+
 pub step-mul : (s : Space) (r : Regs) (bytes : List ℕ) (cond rd rn rs rm : ℕ)
     → Fetches s r bytes (Mul cond false false rd rn rs rm) → holds cond r ≡ true → rd < 15 → rn < 15 → rs < 15 → rm < 15 → (rd == rm) ≡ false
     → cpu_step s r bytes ≡ goes (at_next (with_register r rd (register r rm * register r rs % 2 ^ 32))) bytes
-unfolding class_step is_unpredictable multiply_step multiplied product
+unfolding multiplied
 step-mul s r bytes cond rd rn rs rm f meets d n t m apart =
-    step-by_class s r bytes (Mul cond false false rd rn rs rm) f meets (multiply_fine rd rn rs rm d n t m apart)
-    ∙ ap (λ v. goes (at_next (with_register r rd v)) bytes) (let e : (register r rm * register r rs + 0) % 2 ^ 32 ≡ register r rm * register r rs % 2 ^ 32 = ap (λ k. k % 2 ^ 32) (omega arith) in e)
+    multiply_by_class s r bytes cond false false rd rn rs rm f meets d n t m apart
+    ∙ ap (λ v. goes (at_next (with_register r rd v)) bytes) (plain_product r rn rs rm)
 
--- MLA without S
 pub step-mla : (s : Space) (r : Regs) (bytes : List ℕ) (cond rd rn rs rm : ℕ)
     → Fetches s r bytes (Mul cond true false rd rn rs rm) → holds cond r ≡ true → rd < 15 → rn < 15 → rs < 15 → rm < 15 → (rd == rm) ≡ false
     → cpu_step s r bytes ≡ goes (at_next (with_register r rd ((register r rm * register r rs + register r rn) % 2 ^ 32))) bytes
-unfolding class_step is_unpredictable multiply_step multiplied product
-step-mla s r bytes cond rd rn rs rm f meets d n t m apart =
-    step-by_class s r bytes (Mul cond true false rd rn rs rm) f meets (multiply_fine rd rn rs rm d n t m apart)
+unfolding multiplied product
+step-mla s r bytes cond rd rn rs rm f meets d n t m apart = multiply_by_class s r bytes cond true false rd rn rs rm f meets d n t m apart
+
+-- MULS and MLAS: N and Z by the value, and C and V stay
+abbrev pub multiply_outcome : Regs → ℕ → Computed
+multiply_outcome r value = record { value = value; carry = carry r; overflow = overflow r }
+
+pub step-muls : (s : Space) (r : Regs) (bytes : List ℕ) (cond rd rn rs rm : ℕ)
+    → Fetches s r bytes (Mul cond false true rd rn rs rm) → holds cond r ≡ true → rd < 15 → rn < 15 → rs < 15 → rm < 15 → (rd == rm) ≡ false
+    → (let value = register r rm * register r rs % 2 ^ 32 in cpu_step s r bytes ≡ goes (at_next (with_register (flagged (multiply_outcome r value) r) rd value)) bytes)
+unfolding multiplied
+step-muls s r bytes cond rd rn rs rm f meets d n t m apart =
+    multiply_by_class s r bytes cond false true rd rn rs rm f meets d n t m apart
+    ∙ ap (λ v. goes (at_next (with_register (flagged (multiply_outcome r v) r) rd v)) bytes) (plain_product r rn rs rm)
+
+pub step-mlas : (s : Space) (r : Regs) (bytes : List ℕ) (cond rd rn rs rm : ℕ)
+    → Fetches s r bytes (Mul cond true true rd rn rs rm) → holds cond r ≡ true → rd < 15 → rn < 15 → rs < 15 → rm < 15 → (rd == rm) ≡ false
+    → (let value = (register r rm * register r rs + register r rn) % 2 ^ 32 in cpu_step s r bytes ≡ goes (at_next (with_register (flagged (multiply_outcome r value) r) rd value)) bytes)
+unfolding multiplied product
+step-mlas s r bytes cond rd rn rs rm f meets d n t m apart = multiply_by_class s r bytes cond true true rd rn rs rm f meets d n t m apart
 
 -- ---- LDR and STR
 
@@ -51,28 +83,24 @@ unfolding class_step is_unpredictable
 single_by_class s r bytes cond reg pre up byte wb load rn rd offset f meets fine =
     step-by_class s r bytes (Single cond reg pre up byte wb load rn rd offset) f meets fine
 
-or_false : (b : Bool) → (b || false) ≡ b
-or_false true = refl
-or_false false = refl
-
 -- an access whose address is moved before, and that leaves the base alone
 access_plain : (r : Regs) (reg up : Bool) (rn offset at : ℕ) → moved up (first_operand r 8 rn) (offset_of r reg offset) ≡ at
     → single_access r reg true up false rn offset ≡ record { user = not r.svc; address = at; base = rn; written_back = None }
 unfolding single_access
-access_plain r reg up rn offset at is = (λ i. record { user = or_false (not r.svc) i; address = is i; base = rn; written_back = None })
+access_plain r reg up rn offset at is = (λ i. record { user = or-false (not r.svc) i; address = is i; base = rn; written_back = None })
 
 -- the same, with the base written back
 access_written : (r : Regs) (reg up : Bool) (rn offset at : ℕ) → moved up (first_operand r 8 rn) (offset_of r reg offset) ≡ at
     → single_access r reg true up true rn offset ≡ record { user = not r.svc; address = at; base = rn; written_back = Some at }
 unfolding single_access
-access_written r reg up rn offset at is = (λ i. record { user = or_false (not r.svc) i; address = is i; base = rn; written_back = Some (is i) })
+access_written r reg up rn offset at is = (λ i. record { user = or-false (not r.svc) i; address = is i; base = rn; written_back = Some (is i) })
 
 -- the base is moved behind the access
 access_behind : (r : Regs) (reg up : Bool) (rn offset at next : ℕ) → first_operand r 8 rn ≡ at → moved up at (offset_of r reg offset) ≡ next
     → single_access r reg false up false rn offset ≡ record { user = not r.svc; address = at; base = rn; written_back = Some next }
 unfolding single_access
 access_behind r reg up rn offset at next is moves =
-    (λ i. record { user = or_false (not r.svc) i; address = is i; base = rn; written_back = Some (moved up (is i) (offset_of r reg offset)) })
+    (λ i. record { user = or-false (not r.svc) i; address = is i; base = rn; written_back = Some (moved up (is i) (offset_of r reg offset)) })
     ∙ (λ i. record { user = not r.svc; address = at; base = rn; written_back = Some (moves i) })
 
 -- what is read and stored
@@ -125,6 +153,31 @@ is_open_offset reg offset = reg && (bits offset 3 0 == R15)
 pub offset-number : (r : Regs) (offset : ℕ) → offset_of r false offset ≡ offset
 unfolding offset_of
 offset-number r offset = refl
+
+-- an offset that is Rm, or Rm shifted by a number of bits: it isn't left open
+pub fine-offset_register : (rm : ℕ) → rm < 15 → is_open_offset true rm ≡ false
+fine-offset_register rm low = ne_eqb (bits rm 3 0) 15 (λ e. omega (arith, e, low))
+
+pub fine-offset_shifted : (amount kind rm : ℕ) → rm < 15 → is_open_offset true (amount * 2 ^ 7 + kind * 2 ^ 5 + rm) ≡ false
+fine-offset_shifted amount kind rm low = ne_eqb (bits (amount * 2 ^ 7 + kind * 2 ^ 5 + rm) 3 0) 15 (λ e. omega (arith, e, low))
+
+pub fine-offset_lsl : (amount rm : ℕ) → rm < 15 → is_open_offset true (amount * 2 ^ 7 + rm) ≡ false
+fine-offset_lsl amount rm low = ne_eqb (bits (amount * 2 ^ 7 + rm) 3 0) 15 (λ e. omega (arith, e, low))
+
+-- and its value
+offset_value : (r : Regs) (offset : ℕ) (x : Shifted) → amount_operand r offset ≡ x → offset_of r true offset ≡ x.value
+unfolding offset_of
+offset_value r offset x is = ap (λ (y : Shifted). y.value) is
+
+pub offset-register : (r : Regs) (rm : ℕ) → rm < 15 → offset_of r true rm ≡ register r rm
+offset-register r rm low = offset_value r rm _ (amount-plain r rm low)
+
+pub offset-lsl : (r : Regs) (amount rm : ℕ) → 0 < amount → amount < 32 → rm < 15 → offset_of r true (amount * 2 ^ 7 + rm) ≡ register r rm * 2 ^ amount % 2 ^ 32
+offset-lsl r amount rm some few low = offset_value r (amount * 2 ^ 7 + rm) _ (amount-lsl r amount rm some few low)
+
+pub offset-shifted : (r : Regs) (amount kind rm : ℕ) → amount < 32 → kind < 4 → rm < 15
+    → offset_of r true (amount * 2 ^ 7 + kind * 2 ^ 5 + rm) ≡ (shifted_by_field kind (register r rm) amount (carry r)).value
+offset-shifted r amount kind rm few four low = offset_value r (amount * 2 ^ 7 + kind * 2 ^ 5 + rm) _ (amount-shifted r amount kind rm few four low)
 
 -- an address from a base and a number
 pub moved-up : (base offset : ℕ) → base + offset < 2 ^ 32 → moved true base offset ≡ base + offset

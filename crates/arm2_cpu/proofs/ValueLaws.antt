@@ -1,21 +1,23 @@
 -- What operations and operands give, in plain numbers.
-use Rattle.std.proofs.Common.{◌≡◌, ℕ, suc, ◌+◌, ◌-◌, ◌*◌, ◌/◌, ◌%◌, ◌^◌, ◌<◌, ◌≤◌, ◌==◌, ◌||◌, not, nat_le, nat_lt, Bool, true, false, if◌then◌else◌, pos, negsuc, ◌+ℤ◌, ◌-ℤ◌, refl, sym, ap, ◌∙◌, arith, eq-eqb, lt-ltb, le-ltb, ltb-true, ltb-false}
+use Rattle.std.proofs.Common.{◌≡◌, ℕ, suc, ◌+◌, ◌-◌, ◌*◌, ◌/◌, ◌%◌, ◌^◌, ◌<◌, ◌≤◌, ◌==◌, ◌||◌, not, nat_le, nat_lt, Bool, true, false, if◌then◌else◌, bit_and, bit_or, bit_xor, ℤ, pos, negsuc, ◌+ℤ◌, ◌-ℤ◌, refl, sym, ap, ◌∙◌, arith, eq-eqb, lt-ltb, le-ltb, ltb-true, ltb-false}
 use Rattle.std.proofs.lemmas.Bool.{ne_eqb}
 use Rattle.std.proofs.lemmas.Int.{ints}
 use Rattle.std.proofs.lemmas.Bool.Decides.{nat_tests}
 use Rattle.std.specs.Int.{w32, cast_signed, from_bool}
 use Rattle.arm_isa.specs.Fields.{bits, bit}
-use Rattle.arm_isa.specs.Immediates.{immediate_value}
+use Rattle.arm_isa.specs.Immediates.{rotated, immediate_value}
 use Rattle.arm2_cpu.specs.declared.operations.Computed.{Computed}
-use Rattle.arm2_cpu.specs.declared.operations.TheConstants.{SUB, RSB, ADD, ADC, SBC, RSC, CMP, CMN}
+use Rattle.arm2_cpu.specs.declared.operations.TheConstants.{AND, EOR, SUB, RSB, ADD, ADC, SBC, RSC, TST, TEQ, CMP, CMN, ORR, MOV, BIC}
 use Rattle.arm2_cpu.specs.declared.regs.Regs.{Regs}
 use Rattle.arm2_cpu.specs.declared.regs.TheConstants.{R15}
 use Rattle.arm2_cpu.specs.declared.shifts.Shifted.{Shifted}
-use Rattle.arm2_cpu.specs.Conditions.{carry}
-use Rattle.arm2_cpu.specs.Operands.{first_operand, second_operand, whole_operand, immediate_operand, amount_operand, register_operand}
+use Rattle.arm2_cpu.specs.declared.shifts.TheConstants.{ASR}
+use Rattle.arm2_cpu.specs.Conditions.{has_bit, carry}
+use Rattle.arm2_cpu.specs.Operands.{by_register, first_operand, second_operand, whole_operand, immediate_operand, amount_operand, register_operand}
 use Rattle.arm2_cpu.specs.Operations.{is_signed_word, added, subtracted, logical, computed}
 use Rattle.arm2_cpu.specs.Registers.{register, pc_ahead}
-use Rattle.arm2_cpu.specs.Shifts.{complement, shifted_by_field, shifted, shifted_left, shifted_right, shifted_signed}
+use Rattle.arm2_cpu.specs.Shifts.{complement, shifted_by_field, shifted}
+use Rattle.arm2_cpu.proofs.ShiftValues.{shifted-lsl, shifted-lsr, shifted-ror, field-amount, field-lsl_0}
 
 -- a difference modulo 2^32
 abbrev pub minus : ℕ → ℕ → ℕ
@@ -82,22 +84,26 @@ signed-low n low = rw (lt-ltb n (2 ^ 31) low) refl
 pub signed-high : (n : ℕ) → 2 ^ 31 ≤ n → cast_signed w32 n ≡ negsuc (2 ^ 32 - suc n)
 signed-high n high = rw (le-ltb n (2 ^ 31) high) refl
 
-signed_difference : (a b : ℕ) → b < 2 ^ 32 → cast_signed w32 a +ℤ cast_signed w32 (complement b) +ℤ pos (from_bool true) ≡ cast_signed w32 a -ℤ cast_signed w32 b
-signed_difference a b below = cases (nat_lt b (2 ^ 31)) refl
+signed_complement : (n : ℕ) → n < 2 ^ 32 → cast_signed w32 (complement n) ≡ negsuc 0 -ℤ cast_signed w32 n
+signed_complement n small = cases (nat_lt n (2 ^ 31)) refl
   where
-    cases : (t : Bool) → nat_lt b (2 ^ 31) ≡ t → cast_signed w32 a +ℤ cast_signed w32 (complement b) +ℤ pos (from_bool true) ≡ cast_signed w32 a -ℤ cast_signed w32 b
+    cases : (t : Bool) → nat_lt n (2 ^ 31) ≡ t → cast_signed w32 (complement n) ≡ negsuc 0 -ℤ cast_signed w32 n
     cases true e =
-        let low = ltb-true b (2 ^ 31) e in
-        let is = signed-low b low in
-        let other = signed-high (complement b) (omega (arith, low)) in
-        let back : 2 ^ 32 - suc (complement b) ≡ b = omega (arith, below) in
-        (λ i. cast_signed w32 a +ℤ (other ∙ ap negsuc back) i +ℤ pos 1) ∙ (let z : cast_signed w32 a +ℤ negsuc b +ℤ pos 1 ≡ cast_signed w32 a -ℤ pos b = omega (arith, ints) in z) ∙ (λ i. cast_signed w32 a -ℤ sym is i)
+        let low = ltb-true n (2 ^ 31) e in
+        let is = signed-low n low in
+        let other = signed-high (complement n) (omega (arith, low)) in
+        omega (arith, ints, is, other, small)
     cases false e =
-        let high = ltb-false b (2 ^ 31) e in
-        let is = signed-high b high in
-        let other = signed-low (complement b) (omega (arith, high, below)) in
-        let back : 2 ^ 32 - suc b ≡ complement b = omega (arith, below) in
-        (λ i. cast_signed w32 a +ℤ other i +ℤ pos 1) ∙ (let z : cast_signed w32 a +ℤ pos (complement b) +ℤ pos 1 ≡ cast_signed w32 a -ℤ negsuc (complement b) = omega (arith, ints) in z) ∙ (λ i. cast_signed w32 a -ℤ sym (is ∙ ap negsuc back) i)
+        let high = ltb-false n (2 ^ 31) e in
+        let is = signed-high n high in
+        let other = signed-low (complement n) (omega (arith, high, small)) in
+        omega (arith, ints, is, other, small)
+
+signed_difference : (a b : ℕ) → b < 2 ^ 32 → cast_signed w32 a +ℤ cast_signed w32 (complement b) +ℤ pos (from_bool true) ≡ cast_signed w32 a -ℤ cast_signed w32 b
+signed_difference a b below = ap (λ z. cast_signed w32 a +ℤ z +ℤ pos 1) (signed_complement b below) ∙ difference (cast_signed w32 a) (cast_signed w32 b)
+  where
+    difference : (x y : ℤ) → x +ℤ (negsuc 0 -ℤ y) +ℤ pos 1 ≡ x -ℤ y
+    difference x y = omega (arith, ints)
 
 pub subtracted-compared : (a b : ℕ) → a < 2 ^ 32 → b < 2 ^ 32 → subtracted a b true ≡ compared a b
 unfolding added
@@ -112,6 +118,120 @@ computed-cmp a b c v small below = subtracted-compared a b.value small below
 pub computed-sub : (a : ℕ) (b : Shifted) (c v : Bool) → a < 2 ^ 32 → b.value < 2 ^ 32 → computed SUB a b c v ≡ compared a b.value
 unfolding computed
 computed-sub a b c v small below = subtracted-compared a b.value small below
+
+pub computed-rsb : (a : ℕ) (b : Shifted) (c v : Bool) → a < 2 ^ 32 → b.value < 2 ^ 32 → computed RSB a b c v ≡ compared b.value a
+unfolding computed
+computed-rsb a b c v small below = subtracted-compared b.value a below small
+
+-- ADD and CMN: C is set where the sum passes 32 bits, V where the signed sum is out of range
+abbrev pub summed : ℕ → ℕ → Computed
+summed a b = record {
+  value = (a + b) % 2 ^ 32;
+  carry = nat_le (2 ^ 32) (a + b);
+  overflow = not (is_signed_word (cast_signed w32 a +ℤ cast_signed w32 b));
+}
+
+added_summed : (a b : ℕ) → added a b false ≡ summed a b
+unfolding added
+added_summed a b =
+    let same : a + b + from_bool false ≡ a + b = omega arith in
+    (λ i. record { value = same i % 2 ^ 32; carry = nat_le (2 ^ 32) (same i); overflow = not (is_signed_word (sum (cast_signed w32 a) (cast_signed w32 b) i)) })
+  where
+    sum : (x y : ℤ) → x +ℤ y +ℤ pos 0 ≡ x +ℤ y
+    sum x y = omega (arith, ints)
+
+pub computed-add : (a : ℕ) (b : Shifted) (c v : Bool) → computed ADD a b c v ≡ summed a b.value
+unfolding computed
+computed-add a b c v = added_summed a b.value
+
+pub computed-cmn : (a : ℕ) (b : Shifted) (c v : Bool) → computed CMN a b c v ≡ summed a b.value
+unfolding computed
+computed-cmn a b c v = added_summed a b.value
+
+-- ADC: the same of the sum with C
+abbrev pub summed_with : ℕ → ℕ → Bool → Computed
+summed_with a b c = record {
+  value = (a + b + from_bool c) % 2 ^ 32;
+  carry = nat_le (2 ^ 32) (a + b + from_bool c);
+  overflow = not (is_signed_word (cast_signed w32 a +ℤ cast_signed w32 b +ℤ pos (from_bool c)));
+}
+
+pub computed-adc : (a : ℕ) (b : Shifted) (c v : Bool) → computed ADC a b c v ≡ summed_with a b.value c
+unfolding computed added
+computed-adc a b c v = refl
+
+-- SBC and RSC: the difference, and 1 less where C is 0
+abbrev pub borrowed : ℕ → ℕ → Bool → Computed
+borrowed a b c = record {
+  value = minus a (b + from_bool (not c));
+  carry = nat_le (b + from_bool (not c)) a;
+  overflow = not (is_signed_word (cast_signed w32 a -ℤ cast_signed w32 b -ℤ pos (from_bool (not c))));
+}
+
+pub subtracted-borrowed : (a b : ℕ) (c : Bool) → b < 2 ^ 32 → subtracted a b c ≡ borrowed a b c
+unfolding added
+subtracted-borrowed a b c small = (λ i. record {
+  value = value c i;
+  carry = no_borrow c i;
+  overflow = not (is_signed_word ((ap (λ z. cast_signed w32 a +ℤ z +ℤ pos (from_bool c)) (signed_complement b small) ∙ difference c (cast_signed w32 a) (cast_signed w32 b)) i));
+})
+  where
+    value : (c : Bool) → (a + complement b + from_bool c) % 2 ^ 32 ≡ minus a (b + from_bool (not c))
+    value true = omega (arith, small)
+    value false = omega (arith, small)
+
+    no_borrow : (c : Bool) → nat_le (2 ^ 32) (a + complement b + from_bool c) ≡ nat_le (b + from_bool (not c)) a
+    no_borrow true = grind (arith, nat_tests)
+    no_borrow false = grind (arith, nat_tests)
+
+    difference : (c : Bool) (x y : ℤ) → x +ℤ (negsuc 0 -ℤ y) +ℤ pos (from_bool c) ≡ x -ℤ y -ℤ pos (from_bool (not c))
+    difference true x y = omega (arith, ints)
+    difference false x y = omega (arith, ints)
+
+pub computed-sbc : (a : ℕ) (b : Shifted) (c v : Bool) → b.value < 2 ^ 32 → computed SBC a b c v ≡ borrowed a b.value c
+unfolding computed
+computed-sbc a b c v below = subtracted-borrowed a b.value c below
+
+pub computed-rsc : (a : ℕ) (b : Shifted) (c v : Bool) → a < 2 ^ 32 → computed RSC a b c v ≡ borrowed b.value a c
+unfolding computed
+computed-rsc a b c v small = subtracted-borrowed b.value a c small
+
+-- the operations without a sum: C by the shift, and V stays
+abbrev pub carried : ℕ → Shifted → Bool → Computed
+carried value b v = record { value = value; carry = b.carry; overflow = v }
+
+pub computed-and : (a : ℕ) (b : Shifted) (c v : Bool) → computed AND a b c v ≡ carried (bit_and a b.value) b v
+unfolding computed logical
+computed-and a b c v = refl
+
+pub computed-tst : (a : ℕ) (b : Shifted) (c v : Bool) → computed TST a b c v ≡ carried (bit_and a b.value) b v
+unfolding computed logical
+computed-tst a b c v = refl
+
+pub computed-eor : (a : ℕ) (b : Shifted) (c v : Bool) → computed EOR a b c v ≡ carried (bit_xor a b.value) b v
+unfolding computed logical
+computed-eor a b c v = refl
+
+pub computed-teq : (a : ℕ) (b : Shifted) (c v : Bool) → computed TEQ a b c v ≡ carried (bit_xor a b.value) b v
+unfolding computed logical
+computed-teq a b c v = refl
+
+pub computed-orr : (a : ℕ) (b : Shifted) (c v : Bool) → computed ORR a b c v ≡ carried (bit_or a b.value) b v
+unfolding computed logical
+computed-orr a b c v = refl
+
+pub computed-mov : (a : ℕ) (b : Shifted) (c v : Bool) → computed MOV a b c v ≡ carried b.value b v
+unfolding computed logical
+computed-mov a b c v = refl
+
+pub computed-bic : (a : ℕ) (b : Shifted) (c v : Bool) → computed BIC a b c v ≡ carried (bit_and a (complement b.value)) b v
+unfolding computed logical
+computed-bic a b c v = refl
+
+-- MVN is operation 15
+pub computed-mvn : (a : ℕ) (b : Shifted) (c v : Bool) → computed 15 a b c v ≡ carried (complement b.value) b v
+unfolding computed logical
+computed-mvn a b c v = refl
 
 -- a difference is 0 exactly where the numbers are equal
 pub difference-zero : (a b : ℕ) → a < 2 ^ 32 → b < 2 ^ 32 → (minus a b == 0) ≡ (a == b)
@@ -138,46 +258,84 @@ pub second-immediate : (r : Regs) (op2 : ℕ) → (second_operand r true op2).va
 unfolding second_operand immediate_operand
 second-immediate r op2 = refl
 
--- a register operand whose shift has its amount in the instruction
-amount_parts : (r : Regs) (amount kind rm : ℕ) → amount < 32 → kind < 4 → rm < 15
-    → (second_operand r false (amount * 2 ^ 7 + kind * 2 ^ 5 + rm)) ≡ shifted_by_field kind (register r rm) amount (carry r)
-unfolding second_operand amount_operand
-amount_parts r amount kind rm few four low =
+-- an immediate with its carry
+pub second-immediate_carry : (r : Regs) (op2 : ℕ) → second_operand r true op2 ≡ immediate_operand op2 (carry r)
+unfolding second_operand
+second-immediate_carry r op2 = refl
+
+-- a register whose shift has its amount in the instruction, and one that isn't shifted
+pub shift_is_amount : (amount kind rm : ℕ) → kind < 4 → rm < 15 → by_register false (amount * 2 ^ 7 + kind * 2 ^ 5 + rm) ≡ false
+shift_is_amount amount kind rm four low = ne_eqb (bits (amount * 2 ^ 7 + kind * 2 ^ 5 + rm) 4 4) 1 (λ e. omega (arith, e, four, low))
+
+pub plain_is_amount : (rm : ℕ) → rm < 15 → by_register false rm ≡ false
+plain_is_amount rm low = ne_eqb (bits rm 4 4) 1 (λ e. omega (arith, e, low))
+
+pub amount-shifted : (r : Regs) (amount kind rm : ℕ) → amount < 32 → kind < 4 → rm < 15
+    → amount_operand r (amount * 2 ^ 7 + kind * 2 ^ 5 + rm) ≡ shifted_by_field kind (register r rm) amount (carry r)
+unfolding amount_operand
+amount-shifted r amount kind rm few four low =
     let op2 = amount * 2 ^ 7 + kind * 2 ^ 5 + rm in
-    let no_register : bit op2 4 ≡ false = ne_eqb (bits op2 4 4) 1 (λ e. omega (arith, e, few, four, low)) in
     let is_kind : bits op2 6 5 ≡ kind = omega (arith, few, four, low) in
     let is_rm : bits op2 3 0 ≡ rm = omega (arith, few, four, low) in
     let is_amount : bits op2 11 7 ≡ amount = omega (arith, few, four, low) in
-    (λ i. if no_register i then register_operand r op2 else shifted_by_field (is_kind i) (whole_operand r 8 (is_rm i)) (is_amount i) (carry r))
+    (λ i. shifted_by_field (is_kind i) (whole_operand r 8 (is_rm i)) (is_amount i) (carry r))
     ∙ ap (λ w. shifted_by_field kind w amount (carry r)) (whole-register r 8 rm low)
+
+pub amount-plain : (r : Regs) (rm : ℕ) → rm < 15 → amount_operand r rm ≡ record { value = register r rm; carry = carry r }
+amount-plain r rm low =
+    ap (amount_operand r) (let e : rm ≡ 0 * 2 ^ 7 + 0 * 2 ^ 5 + rm = omega arith in e)
+    ∙ amount-shifted r 0 0 rm (omega arith) (omega arith) low ∙ field-lsl_0 (register r rm) (carry r)
+
+pub amount-lsl : (r : Regs) (amount rm : ℕ) → 0 < amount → amount < 32 → rm < 15
+    → amount_operand r (amount * 2 ^ 7 + rm) ≡ record { value = register r rm * 2 ^ amount % 2 ^ 32; carry = has_bit (register r rm) (32 - amount) }
+amount-lsl r amount rm some few low =
+    ap (amount_operand r) (let e : amount * 2 ^ 7 + rm ≡ amount * 2 ^ 7 + 0 * 2 ^ 5 + rm = omega arith in e)
+    ∙ amount-shifted r amount 0 rm few (omega arith) low ∙ field-amount 0 (register r rm) amount (carry r) some
+    ∙ shifted-lsl (register r rm) amount (carry r) some (omega (arith, few))
+
+-- the second operand is that register
+second_by_amount : (r : Regs) (op2 : ℕ) → by_register false op2 ≡ false → second_operand r false op2 ≡ amount_operand r op2
+unfolding second_operand
+second_by_amount r op2 amount = rw amount refl
+
+pub second-shifted : (r : Regs) (amount kind rm : ℕ) → amount < 32 → kind < 4 → rm < 15
+    → second_operand r false (amount * 2 ^ 7 + kind * 2 ^ 5 + rm) ≡ shifted_by_field kind (register r rm) amount (carry r)
+second-shifted r amount kind rm few four low =
+    second_by_amount r (amount * 2 ^ 7 + kind * 2 ^ 5 + rm) (shift_is_amount amount kind rm four low) ∙ amount-shifted r amount kind rm few four low
 
 -- Rm
 pub second-plain : (r : Regs) (rm : ℕ) → rm < 15 → second_operand r false rm ≡ record { value = register r rm; carry = carry r }
-unfolding shifted_by_field
-second-plain r rm low =
-    ap (second_operand r false) (let e : rm ≡ 0 * 2 ^ 7 + 0 * 2 ^ 5 + rm = omega arith in e) ∙ amount_parts r 0 0 rm (omega arith) (omega arith) low
+second-plain r rm low = second_by_amount r rm (plain_is_amount rm low) ∙ amount-plain r rm low
+
+-- the value of a register that is shifted by 1 to 31 bits
+second_value : (r : Regs) (amount kind rm : ℕ) → 0 < amount → amount < 32 → kind < 4 → rm < 15
+    → (second_operand r false (amount * 2 ^ 7 + kind * 2 ^ 5 + rm)).value ≡ (shifted kind (register r rm) amount (carry r)).value
+second_value r amount kind rm some few four low =
+    ap (λ (x : Shifted). x.value) (second-shifted r amount kind rm few four low ∙ field-amount kind (register r rm) amount (carry r) some)
 
 -- Rm,LSL #amount
 pub second-lsl : (r : Regs) (amount rm : ℕ) → 0 < amount → amount < 32 → rm < 15 → (second_operand r false (amount * 2 ^ 7 + rm)).value ≡ register r rm * 2 ^ amount % 2 ^ 32
-unfolding shifted_by_field shifted shifted_left
 second-lsl r amount rm some few low =
     ap (λ k. (second_operand r false k).value) (let e : amount * 2 ^ 7 + rm ≡ amount * 2 ^ 7 + 0 * 2 ^ 5 + rm = omega arith in e)
-    ∙ ap (λ (x : Shifted). x.value) (amount_parts r amount 0 rm few (omega arith) low)
-    ∙ rw (ne_eqb amount 0 (λ e. omega (arith, e, some))) refl
+    ∙ second_value r amount 0 rm some few (omega arith) low
+    ∙ ap (λ (x : Shifted). x.value) (shifted-lsl (register r rm) amount (carry r) some (omega (arith, few)))
 
 -- Rm,LSR #amount
 pub second-lsr : (r : Regs) (amount rm : ℕ) → 0 < amount → amount < 32 → rm < 15 → (second_operand r false (amount * 2 ^ 7 + 1 * 2 ^ 5 + rm)).value ≡ register r rm / 2 ^ amount
-unfolding shifted_by_field shifted shifted_right
 second-lsr r amount rm some few low =
-    ap (λ (x : Shifted). x.value) (amount_parts r amount 1 rm few (omega arith) low)
-    ∙ rw (ne_eqb amount 0 (λ e. omega (arith, e, some))) refl
+    second_value r amount 1 rm some few (omega arith) low
+    ∙ ap (λ (x : Shifted). x.value) (shifted-lsr (register r rm) amount (carry r) some)
 
 -- Rm,ASR #amount
-pub second-asr : (r : Regs) (amount rm : ℕ) → 0 < amount → amount < 32 → rm < 15 → (second_operand r false (amount * 2 ^ 7 + 2 * 2 ^ 5 + rm)).value ≡ (shifted_signed (register r rm) amount).value
-unfolding shifted_by_field shifted
-second-asr r amount rm some few low =
-    ap (λ (x : Shifted). x.value) (amount_parts r amount 2 rm few (omega arith) low)
-    ∙ rw (ne_eqb amount 0 (λ e. omega (arith, e, some))) refl
+pub second-asr : (r : Regs) (amount rm : ℕ) → 0 < amount → amount < 32 → rm < 15 → (second_operand r false (amount * 2 ^ 7 + 2 * 2 ^ 5 + rm)).value ≡ (shifted ASR (register r rm) amount (carry r)).value
+second-asr r amount rm some few low = second_value r amount 2 rm some few (omega arith) low
+
+-- Rm,ROR #amount
+pub second-ror : (r : Regs) (amount rm : ℕ) → 0 < amount → amount < 32 → rm < 15 → (second_operand r false (amount * 2 ^ 7 + 3 * 2 ^ 5 + rm)).value ≡ rotated (register r rm) amount
+second-ror r amount rm some few low =
+    second_value r amount 3 rm some few (omega arith) low
+    ∙ ap (λ (x : Shifted). x.value) (shifted-ror (register r rm) amount (carry r) some)
+    ∙ ap (rotated (register r rm)) (let e : amount % 32 ≡ amount = omega (arith, few) in e)
 
 -- Rm shifted by a register's low byte
 pub second-by_register : (r : Regs) (rs kind rm : ℕ) → rs < 16 → kind < 4 → rm < 15
