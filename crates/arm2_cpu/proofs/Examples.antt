@@ -1,23 +1,29 @@
 -- The laws at work: a few instructions at the PC, by their words.
-use Rattle.std.proofs.Common.{length, ◌*◌, ◌-◌, ◌≤◌, ◌∷◌, [], None, ◌≡◌, ℕ, ◌+◌, ◌%◌, ◌^◌, ◌<◌, not, true, false, List, Some, refl, ◌∙◌, ap, arith}
-use Rattle.arm_isa.specs.declared.instruction.Instr.TheVariants.{Block, Data, Single, Swi}
-use Rattle.arm_isa.specs.Words.{word_of}
-use Rattle.arm_isa.proofs.ValidLaws.{valid-data_immediate}
+use Rattle.std.proofs.Common.{length, ◌*◌, ◌-◌, ◌≤◌, ◌∷◌, [], None, ◌≡◌, ℕ, ◌+◌, ◌%◌, ◌^◌, ◌<◌, ◌==◌, not, true, false, List, Some, ℤ, pos, ◌+ℤ◌, refl, ◌∙◌, ap, arith}
+use Rattle.std.specs.Int.{w32, cast_signed}
+use Rattle.arm_isa.specs.declared.instruction.Instr.TheVariants.{Block, Branch, Data, Single, Swi}
+use Rattle.arm_isa.specs.Words.{word_of, FitsOffset}
+use Rattle.arm_isa.proofs.ValidLaws.{valid-branch, valid-data_immediate}
 use Rattle.arm_isa.proofs.ValidTest.{valid_by_test}
 use Rattle.arm_isa.proofs.ImmediateLaws.{immediate_value-byte}
 use Rattle.arm2_cpu.specs.declared.event.CpuEvent.TheVariants as events
 use Rattle.arm2_cpu.specs.declared.regs.Regs.{Regs}
+use Rattle.arm2_cpu.specs.declared.shifts.Shifted.{Shifted}
+use Rattle.arm2_cpu.specs.Branch.{branch_target}
+use Rattle.arm2_cpu.specs.Conditions.{has_bit, with_flags}
+use Rattle.arm2_cpu.specs.Data.{flagged}
+use Rattle.arm2_cpu.specs.Operations.{is_signed_word}
 use Rattle.arm2_cpu.specs.Memory.{Space, read_word, word_at, with_word}
-use Rattle.arm2_cpu.specs.Registers.{register, with_register, at_next, jumped}
+use Rattle.arm2_cpu.specs.Registers.{IsValidRegs, register, with_register, at_next, jumped, pc_ahead, r15}
 use Rattle.arm2_cpu.specs.Step.{cpu_step}
 use Rattle.arm2_cpu.specs.declared.regs.TheConstants.{PC_END}
-use Rattle.arm2_cpu.specs.Block.{registers_among, registers_in, next_word, refused_word, with_block}
+use Rattle.arm2_cpu.specs.Block.{registers_among, registers_in, low_registers_in, next_word, refused_word, with_block, with_words}
 use Rattle.arm2_cpu.specs.Access.{moved, offset_of}
-use Rattle.arm2_cpu.proofs.RegisterLaws.{holds-always}
+use Rattle.arm2_cpu.proofs.RegisterLaws.{holds-always, holds-at_pc, holds-vs, holds-with_register, pc-with_flags, pc-with_register, r15-jump, register-at_pc, register-same, svc-with_flags, svc-with_register}
 use Rattle.arm2_cpu.proofs.StepBasics.{goes, fetches_word}
-use Rattle.arm2_cpu.proofs.TransferLaws.{step-ldr, step-stm, offset-lsl, fine-offset_lsl, moved-up, moved-down, with_block-more, with_block-none, refused-more, refused-none}
-use Rattle.arm2_cpu.proofs.ValueLaws.{first-register}
-use Rattle.arm2_cpu.proofs.StepLaws.{step-mov_immediate, step-data_immediate, step-jump_register, step-swi}
+use Rattle.arm2_cpu.proofs.TransferLaws.{block_start, step-ldm_pc, step-ldr, step-stm, with_words-more, with_words-none, offset-lsl, fine-offset_lsl, moved-up, moved-down, with_block-more, with_block-none, refused-more, refused-none}
+use Rattle.arm2_cpu.proofs.ValueLaws.{first-register, plain_is_amount, second-plain, summed}
+use Rattle.arm2_cpu.proofs.StepLaws.{step-adds, step-branch, step-branch_link, step-mov_immediate, step-data_immediate, step-jump_register, step-swi}
 
 -- MOV Rd,#n, of a byte
 mov_byte : (s : Space) (r : Regs) (bytes : List ℕ) (rd n : ℕ) → rd < 15 → n < 256
@@ -86,3 +92,80 @@ push s r bytes top is room aligned low first second word =
     ∙ with_block-more 14 [] s (with_word s bytes (top - 8) (register r 0)) r (next_word (top - 8)) (omega arith)
     ∙ with_block-none s _ r r.svc (next_word (next_word (top - 8)))
     ∙ ap (λ at. with_word s (with_word s bytes (top - 8) (register r 0)) at (register r 14)) behind)
+
+-- LDMIA R13!,{R0,R1,PC}: three words from a stack that grows down, of which the last is where to go on
+low_popped : low_registers_in 0x8003 ≡ 0 ∷ 1 ∷ []
+unfolding registers_among
+low_popped = refl
+
+popped : registers_in 0x8003 ≡ 0 ∷ 1 ∷ 15 ∷ []
+unfolding registers_among
+popped = refl
+
+pop : (s : Space) (r : Regs) (bytes : List ℕ) (top : ℕ) → register r 13 ≡ top → top % 4 ≡ 0 → top + 12 < PC_END
+    → s.allows (not r.svc) top ≡ true → s.allows (not r.svc) (top + 4) ≡ true → s.allows (not r.svc) (top + 8) ≡ true
+    → read_word s bytes (not r.svc) r.pc ≡ Some 0xe8bd8003
+    → cpu_step s r bytes ≡ goes (jumped (with_register (with_register (with_register r 13 (top + 12)) 0 (word_at s bytes top)) 1 (word_at s bytes (top + 4))) (word_at s bytes (top + 8))) bytes
+unfolding word_of
+pop s r bytes top is aligned low first second third word =
+    let user = not r.svc in
+    let at1 : next_word top ≡ top + 4 = omega (arith, low) in
+    let at2 : next_word (top + 4) ≡ top + 8 = omega (arith, low) in
+    let allowed : refused_word 3 s user top ≡ None =
+    refused-more 2 s user top (omega (arith, low)) first (ap (refused_word 2 s user) at1
+    ∙ refused-more 1 s user (top + 4) (omega (arith, low)) second (ap (refused_word 1 s user) at2
+    ∙ refused-more 0 s user (top + 8) (omega (arith, low)) third (refused-none s user (next_word (top + 8))))) in
+    let r1 = with_register r 13 (top + 12) in
+    let r2 = with_register r1 0 (word_at s bytes top) in
+    let same1 = svc-with_register r 13 (top + 12) in
+    let same2 = svc-with_register r1 0 (word_at s bytes top) ∙ same1 in
+    let last : (top + 4 * length (low_registers_in 0x8003)) % 2 ^ 32 ≡ top + 8 = ap (λ ns. (top + 4 * length ns) % 2 ^ 32) low_popped ∙ omega (arith, low) in
+    step-ldm_pc s r bytes 14 false true true 13 0x8003 (top + 12) top (fetches_word (Block 14 false true false true true 13 0x8003) (valid_by_test _ refl) word) (holds-always r) refl refl
+    ((λ i. moved true (is i) (4 * length (popped i))) ∙ moved-up top 12 (omega (arith, low)))
+    (ap (λ b. block_start false true b (top + 12)) is ∙ omega (arith, aligned, low))
+    (ap (λ ns. refused_word (length ns) s user top) popped ∙ allowed)
+    ∙ ap (λ at. goes (jumped (with_words (low_registers_in 0x8003) s bytes r1 r.svc top) (word_at s bytes at)) bytes) last
+    ∙ ap (λ x. goes (jumped x (word_at s bytes (top + 8))) bytes)
+    (ap (λ ns. with_words ns s bytes r1 r.svc top) low_popped
+    ∙ with_words-more 0 (1 ∷ []) s bytes r1 r.svc top same1
+    ∙ with_words-more 1 [] s bytes r2 r.svc (next_word top) same2
+    ∙ with_words-none s bytes _ r.svc (next_word (next_word top))
+    ∙ ap (λ at. with_register r2 1 (word_at s bytes at)) at1)
+
+-- BL, and MOV PC,R14 where it leads: back to the instruction behind the BL, with the flags as they are
+call_and_return : (s : Space) (r : Regs) (bytes : List ℕ) (words : ℤ) → IsValidRegs r → length r.low ≡ 13 → FitsOffset words
+    → read_word s bytes (not r.svc) r.pc ≡ Some (word_of (Branch 14 true words))
+    → read_word s bytes (not r.svc) (branch_target r words) ≡ Some 0xe1a0f00e
+    → (let called = record (with_register r 14 (r15 r 4)) { pc = branch_target r words } in
+    (cpu_step s r bytes ≡ goes called bytes) × (cpu_step s called bytes ≡ goes (record called { pc = pc_ahead r 4 }) bytes))
+call_and_return s r bytes words valid whole fits there back =
+    let called = record (with_register r 14 (r15 r 4)) { pc = branch_target r words } in
+    let fetched = (λ i. read_word s bytes (not (svc-with_register r 14 (r15 r 4) i)) (branch_target r words)) ∙ back in
+    let link = register-at_pc (with_register r 14 (r15 r 4)) (branch_target r words) 14 ∙ register-same r 14 (r15 r 4) whole in (
+      step-branch_link s r bytes 14 words (fetches_word (Branch 14 true words) (valid-branch 14 true words (omega arith) fits) there) (holds-always r),
+      return s called bytes fetched ∙ ap (λ v. goes (jumped called v) bytes) link ∙ ap (λ x. goes x bytes) (r15-jump called r 4 valid (omega arith)),
+    )
+
+-- ADDS R0,R0,R1 and BVS: the branch is taken where the signed sum is out of range
+add_checked : (s : Space) (r : Regs) (bytes : List ℕ) (a b words : ℕ) → register r 0 ≡ a → register r 1 ≡ b → words < 2 ^ 23
+    → is_signed_word (cast_signed w32 a +ℤ cast_signed w32 b) ≡ false
+    → read_word s bytes (not r.svc) r.pc ≡ Some 0xe0900001
+    → read_word s bytes (not r.svc) (pc_ahead r 4) ≡ Some (word_of (Branch 6 false (pos words)))
+    → (let after = at_next (with_register (flagged (summed a b) r) 0 ((a + b) % 2 ^ 32)) in
+    (cpu_step s r bytes ≡ goes after bytes) × (cpu_step s after bytes ≡ goes (record after { pc = branch_target after (pos words) }) bytes))
+unfolding word_of
+add_checked s r bytes a b words first second fits outside add branch =
+    let x = summed a b in
+    let n = has_bit x.value 31 in
+    let z = x.value == 0 in
+    let flags = with_flags n z x.carry x.overflow r in
+    let value = (a + b) % 2 ^ 32 in
+    let after = at_next (with_register flags 0 value) in
+    let mode = svc-with_register flags 0 value ∙ svc-with_flags n z x.carry x.overflow r in
+    let place = pc-with_register flags 0 value ∙ pc-with_flags n z x.carry x.overflow r in
+    let fetched = (λ i. read_word s bytes (not (mode i)) ((place i + 4) % PC_END)) ∙ branch in
+    let overflowed = holds-at_pc 6 (with_register flags 0 value) (pc_ahead (with_register flags 0 value) 4) ∙ holds-with_register 6 flags 0 value ∙ holds-vs n z x.carry x.overflow r ∙ ap not outside in (
+      step-adds s r bytes 14 false 0 0 1 a b (fetches_word (Data 14 false 4 true 0 0 1) (valid_by_test _ refl) add) (holds-always r) (plain_is_amount 1 (omega arith)) (omega arith)
+      (first-register r 8 0 (omega arith) ∙ first) (ap (λ (y : Shifted). y.value) (second-plain r 1 (omega arith)) ∙ second),
+      step-branch s after bytes 6 (pos words) (fetches_word (Branch 6 false (pos words)) (valid-branch 6 false (pos words) (omega arith) fits) fetched) overflowed,
+    )
