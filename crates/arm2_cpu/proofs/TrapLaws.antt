@@ -131,7 +131,3 @@ fetched_keeps s r bytes (Some word) = word_keeps s r bytes word
 pub trap-keeps : (s : Space) (r : Regs) (bytes : List ℕ) → IfTrap (cpu_step s r bytes).event (((cpu_step s r bytes).regs ≡ r) × ((cpu_step s r bytes).bytes ≡ bytes))
 unfolding cpu_step
 trap-keeps s r bytes = fetched_keeps s r bytes (read_word s bytes (not r.svc) r.pc)
-
--- the same of a step that is known
-pub trap-keeps_at : (s : Space) (r : Regs) (bytes : List ℕ) (x : Stepped) → cpu_step s r bytes ≡ x → IfTrap x.event ((x.regs ≡ r) × (x.bytes ≡ bytes))
-trap-keeps_at s r bytes x is = subst (KeepsAll r bytes) is (trap-keeps s r bytes)

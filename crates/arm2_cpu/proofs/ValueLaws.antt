@@ -4,7 +4,7 @@ use Rattle.std.proofs.lemmas.Bool.{ne_eqb}
 use Rattle.std.proofs.lemmas.Int.{ints}
 use Rattle.std.proofs.lemmas.Bool.Decides.{nat_tests}
 use Rattle.std.specs.Int.{w32, cast_signed, from_bool}
-use Rattle.arm_isa.specs.Fields.{bits, bit}
+use Rattle.arm_isa.specs.Fields.{bits}
 use Rattle.arm_isa.specs.Immediates.{rotated, immediate_value}
 use Rattle.arm2_cpu.specs.declared.operations.Computed.{Computed}
 use Rattle.arm2_cpu.specs.declared.operations.TheConstants.{AND, EOR, SUB, RSB, ADD, ADC, SBC, RSC, TST, TEQ, CMP, CMN, ORR, MOV, BIC}
@@ -343,7 +343,7 @@ pub second-by_register : (r : Regs) (rs kind rm : ℕ) → rs < 16 → kind < 4 
 unfolding second_operand register_operand
 second-by_register r rs kind rm sixteen four low =
     let op2 = rs * 2 ^ 8 + kind * 2 ^ 5 + 1 * 2 ^ 4 + rm in
-    let by_register : bit op2 4 ≡ true = eq-eqb (bits op2 4 4) 1 (omega (arith, sixteen, four, low)) in
+    let by_register : has_bit op2 4 ≡ true = eq-eqb (bits op2 4 4) 1 (omega (arith, sixteen, four, low)) in
     let is_kind : bits op2 6 5 ≡ kind = omega (arith, sixteen, four, low) in
     let is_rm : bits op2 3 0 ≡ rm = omega (arith, sixteen, four, low) in
     let is_rs : bits op2 11 8 ≡ rs = omega (arith, sixteen, four, low) in

@@ -1,6 +1,6 @@
 -- The operands of data processing (VL86C010 (ARM2) data manual, data processing; R15 as an operand).
 use Rattle.std.specs.Prelude.{ℕ, ◌%◌, ◌^◌, ◌==◌, ◌&&◌, not, Bool, if◌then◌else◌}
-use Rattle.arm_isa.specs.Fields.{bits, bit}
+use Rattle.arm_isa.specs.Fields.{bits}
 use Rattle.arm_isa.specs.Immediates.{turns_of, immediate_value}
 use Rattle.arm2_cpu.specs.declared.regs.Regs.{Regs}
 use Rattle.arm2_cpu.specs.declared.regs.TheConstants.{R15}
@@ -11,7 +11,7 @@ use Rattle.arm2_cpu.specs.Shifts.{shifted, shifted_by_field}
 
 -- a register operand with its amount in a register
 abbrev pub by_register : Bool → ℕ → Bool
-by_register imm op2 = not imm && bit op2 4
+by_register imm op2 = not imm && has_bit op2 4
 
 -- how many bytes ahead of the instruction R15 reads
 abbrev pub ahead_of : Bool → ℕ → ℕ
@@ -41,5 +41,5 @@ register_operand r op2 = shifted (bits op2 6 5) (whole_operand r 12 (bits op2 3 
 unfoldable pub second_operand : Regs → Bool → ℕ → Shifted
 second_operand r imm op2 =
     if imm then immediate_operand op2 (carry r)
-    else if bit op2 4 then register_operand r op2
+    else if has_bit op2 4 then register_operand r op2
     else amount_operand r op2

@@ -13,9 +13,11 @@ use bv_io::Trap;
 pub struct Access {
     /// Whether the memory is used as in user mode.
     pub user: bool,
+    /// The byte address that LDR and STR use, or that of the lowest word of LDM and STM, a multiple of 4.
     pub address: u32,
     /// The number of the base register.
     pub base: u8,
+    /// The address that the base register takes, or `None` where it keeps its value.
     pub written_back: Option<u32>,
 }
 

@@ -7,7 +7,11 @@ pub enum CpuEvent {
     Ran,
     /// A software interrupt with this number of 24 bits. The PC is behind the instruction.
     Swi(u32),
-    /// It was not carried out, and nothing changed. `address` is the refused address of an access to memory
-    /// (`Trap::Data`), and otherwise that of the instruction.
-    Trap { kind: Trap, address: u32 },
+    /// It was not carried out, and nothing changed.
+    Trap {
+        /// Why it was not carried out.
+        kind: Trap,
+        /// The refused address of an access to memory (`Trap::Data`), otherwise the address of the instruction.
+        address: u32,
+    },
 }

@@ -52,8 +52,11 @@ pub const BIC: u8 = 14;
 /// What an operation gives.
 #[derive(Clone, Copy)]
 pub struct Computed {
+    /// The result modulo 2^32, of which N and Z tell.
     pub value: u32,
+    /// C: a sum passed 32 bits, or a difference borrowed nothing; of an operation without a sum, the carry of the shift.
     pub carry: bool,
+    /// V: the sum or difference of the signed words is outside -2^31 up to 2^31; an operation without a sum keeps V.
     pub overflow: bool,
 }
 

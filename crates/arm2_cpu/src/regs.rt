@@ -1,4 +1,4 @@
-ghost use Rattle.std.specs.Prelude.{◌≡◌, ◌%◌, ◌≤◌};
+ghost use Rattle.std.specs.Prelude.{◌≡◌, ◌↔◌, IsTrue, ◌%◌, ◌≤◌};
 ghost use Rattle.arm2_cpu.specs.Registers.{IsValidRegs, banked, with_banked, register, with_register, r15, at_next, jumped, takes_psr, with_psr};
 
 /// Addresses of instructions are below this: the PC has 26 bits.
@@ -32,6 +32,14 @@ pub struct Regs {
 }
 
 impl Regs {
+    /// Whether these are registers as `step_cpu` takes and leaves them: the PC is a multiple of 4 below `PC_END`, and the
+    /// flags are below `PSR_END`.
+    pub fn is_valid(&self) -> bool
+        ensures { IsTrue result ↔ IsValidRegs self.now }
+    {
+        self.pc % 4 == 0 && self.pc < PC_END && self.psr < PSR_END
+    }
+
     #[tactic(auto, unfolding(crate::specs::Registers::banked))]
     /// A register from R0 to R14 in the bank of a mode.
     pub(crate) fn banked(&self, svc: bool, n: u8) -> u32

@@ -15,6 +15,7 @@ pub const ASR: u8 = 2;
 /// A word that was shifted.
 #[derive(Clone, Copy)]
 pub struct Shifted {
+    /// The word that comes out.
     pub value: u32,
     /// The last bit that was shifted out, or the carry flag where nothing was.
     pub carry: bool,
