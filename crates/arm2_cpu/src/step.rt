@@ -1,8 +1,9 @@
-ghost use Rattle.std.specs.Prelude.{◌≡◌};
+ghost use Rattle.std.specs.Prelude.{◌≡◌, ℕ, List, IsTrue};
 ghost use Rattle.arm_isa.specs.Words.{Fits};
+ghost use Rattle.arm2_cpu.specs.Memory.{Space};
 ghost use Rattle.arm2_cpu.specs.Outcomes.{IfTrap};
 ghost use Rattle.arm2_cpu.specs.Registers.{IsValidRegs};
-ghost use Rattle.arm2_cpu.specs.Step.{class_step, instruction_step, word_step, cpu_step};
+ghost use Rattle.arm2_cpu.specs.Step.{class_step, uses_no_memory, instruction_step, word_step, cpu_step};
 
 use crate::access::{block_access, single_access};
 use crate::block::{count_of, transfer_block};
@@ -18,11 +19,12 @@ use arm_isa::{Instr, decode};
 use bv_io::Trap;
 
 #[tactic(auto, unfolding(crate::specs::Step::class_step))]
-/// Carries out an instruction by its class.
-fn perform<M: Memory>(regs: &mut Regs, mem: &mut M, i: &Instr) -> CpuEvent
+/// Carries out an instruction of a class that uses no memory.
+fn perform_in_registers(regs: &mut Regs, i: &Instr) -> CpuEvent
     requires valid { IsValidRegs regs.old }
     requires fits { Fits i.now }
-    ensures value { class_step M.space regs.old (M.bytes mem.old) i.now ≡ record { event = result; regs = regs.new; bytes = M.bytes mem.new } }
+    requires class { IsTrue (uses_no_memory i.now) }
+    ensures value { (s : Space) (bytes : List ℕ) → class_step s regs.old bytes i.now ≡ record { event = result; regs = regs.new; bytes = bytes } }
     ensures valid { IsValidRegs regs.new }
 {
     match *i {
@@ -44,6 +46,25 @@ fn perform<M: Memory>(regs: &mut Regs, mem: &mut M, i: &Instr) -> CpuEvent
             rm,
             ..
         } => multiply(regs, acc, s, rd, rn, rs, rm),
+        Instr::Branch { link, words, .. } => branch(regs, link, words),
+        Instr::Swi { number, .. } => {
+            regs.advance();
+            CpuEvent::Swi(number)
+        }
+        Instr::Undefined { .. } => regs.trap(Trap::Undefined),
+        Instr::Single { .. } | Instr::Block { .. } => unreachable!(),
+    }
+}
+
+#[tactic(auto, unfolding(crate::specs::Step::class_step))]
+/// Carries out an instruction by its class.
+fn perform<M: Memory>(regs: &mut Regs, mem: &mut M, i: &Instr) -> CpuEvent
+    requires valid { IsValidRegs regs.old }
+    requires fits { Fits i.now }
+    ensures value { class_step M.space regs.old (M.bytes mem.old) i.now ≡ record { event = result; regs = regs.new; bytes = M.bytes mem.new } }
+    ensures valid { IsValidRegs regs.new }
+{
+    match *i {
         Instr::Single {
             reg,
             pre,
@@ -72,12 +93,7 @@ fn perform<M: Memory>(regs: &mut Regs, mem: &mut M, i: &Instr) -> CpuEvent
             let access = block_access(regs, pre, up, wb, rn, count_of(list));
             transfer_block(regs, mem, psr, load, list, &access)
         }
-        Instr::Branch { link, words, .. } => branch(regs, link, words),
-        Instr::Swi { number, .. } => {
-            regs.advance();
-            CpuEvent::Swi(number)
-        }
-        Instr::Undefined { .. } => regs.trap(Trap::Undefined),
+        _ => perform_in_registers(regs, i),
     }
 }
 
