@@ -166,6 +166,6 @@ add_checked s r bytes a b words first second fits outside add branch =
     let fetched = (λ i. read_word s bytes (not (mode i)) ((place i + 4) % PC_END)) ∙ branch in
     let overflowed = holds-at_pc 6 (with_register flags 0 value) (pc_ahead (with_register flags 0 value) 4) ∙ holds-with_register 6 flags 0 value ∙ holds-vs n z x.carry x.overflow r ∙ ap not outside in (
       step-adds s r bytes 14 false 0 0 1 a b (fetches_word (Data 14 false 4 true 0 0 1) (valid_by_test _ refl) add) (holds-always r) (plain_is_amount 1 (omega arith)) (omega arith)
-      (first-register r 8 0 (omega arith) ∙ first) (ap (λ (y : Shifted). y.value) (second-plain r 1 (omega arith)) ∙ second),
+          (first-register r 8 0 (omega arith) ∙ first) (ap (λ (y : Shifted). y.value) (second-plain r 1 (omega arith)) ∙ second),
       step-branch s after bytes 6 (pos words) (fetches_word (Branch 6 false (pos words)) (valid-branch 6 false (pos words) (omega arith) fits) fetched) overflowed,
     )

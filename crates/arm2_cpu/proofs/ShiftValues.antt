@@ -7,7 +7,6 @@ use Rattle.std.proofs.Math.Nat.{div-div-eq-div-mul}
 use Rattle.std.proofs.Math.Pow.{pow_mono}
 use Rattle.std.specs.Int.{from_bool}
 use Rattle.arm_isa.specs.Immediates.{rotated}
-use Rattle.arm2_cpu.specs.declared.shifts.Shifted.{Shifted}
 use Rattle.arm2_cpu.specs.declared.shifts.TheConstants.{LSL, LSR, ASR}
 use Rattle.arm2_cpu.specs.Conditions.{has_bit}
 use Rattle.arm2_cpu.specs.Shifts.{complement, complemented, shifted_left, shifted_right, shifted_signed, turned_right, shifted, rotated_through_carry, shifted_by_field}
