@@ -3,7 +3,7 @@ use Rattle.std.proofs.Common.{◌≡◌, ℕ, suc, ◌+◌, ◌-◌, ◌*◌, �
 use Rattle.std.proofs.Math.Seq.{sets, length-sets}
 use Rattle.std.proofs.lemmas.List.{length-take-le, get_or_append_left, get_or-append-add, get_or-append_right, get_or-take, get_or-drop}
 use Rattle.std.proofs.lemmas.List.Edits.{sets-eq}
-use Rattle.arm2_cpu.specs.Memory.{Space, byte_at, word_at, word_bytes, with_bytes, with_byte, with_word, read_word}
+use Rattle.arm2_cpu.specs.Memory.{Space, byte_at, word_at, word_bytes, with_bytes, with_byte, with_word, read_byte, read_word}
 
 -- a list with other items in its midst
 in_front : (l new : List ℕ) (i k d : ℕ) → i + length new ≤ length l → k < i → get_or (take i l ++ new ++ drop (i + length new) l) k d ≡ get_or l k d
@@ -53,10 +53,14 @@ with_word_by_sets s bytes at i value is fits =
 pub length-with_bytes : (s : Space) (bytes : List ℕ) (at : ℕ) (new : List ℕ) → at - s.base + length new ≤ length bytes → length (with_bytes s bytes at new) ≡ length bytes
 length-with_bytes s bytes at new fits = ap length (with_bytes_by_sets s bytes at new fits) ∙ length-sets bytes (at - s.base) new
 
--- a word that a mode may read, and its four bytes
+-- a word or a byte that a mode may read, and the four bytes of a word
 pub read-word : (s : Space) (bytes : List ℕ) (user : Bool) (at : ℕ) → s.allows user at ≡ true → read_word s bytes user at ≡ Some (word_at s bytes at)
 unfolding read_word
 read-word s bytes user at allowed = rw allowed refl
+
+pub read-byte : (s : Space) (bytes : List ℕ) (user : Bool) (at : ℕ) → s.allows user at ≡ true → read_byte s bytes user at ≡ Some (byte_at s bytes at)
+unfolding read_byte
+read-byte s bytes user at allowed = rw allowed refl
 
 pub word-by_bytes : (s : Space) (bytes : List ℕ) (at : ℕ) → word_at s bytes at ≡ byte_at s bytes at + byte_at s bytes (at + 1) * 2 ^ 8 + byte_at s bytes (at + 2) * 2 ^ 16 + byte_at s bytes (at + 3) * 2 ^ 24
 unfolding word_at

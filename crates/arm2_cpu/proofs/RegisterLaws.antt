@@ -6,7 +6,7 @@ use Rattle.arm_isa.proofs.FieldLemmas.{from_bool-lt, flag_of}
 use Rattle.arm2_cpu.specs.declared.regs.Regs.{Regs}
 use Rattle.arm2_cpu.specs.declared.regs.TheConstants.{PC_END}
 use Rattle.arm2_cpu.specs.Conditions.{has_bit, negative, zero_flag, carry, overflow, same, even_condition, holds, with_flags}
-use Rattle.arm2_cpu.specs.Registers.{IsValidRegs, banked, with_banked, register, with_register, mode, pc_ahead, r15, jumped}
+use Rattle.arm2_cpu.specs.Registers.{IsValidRegs, banked, with_banked, register, with_register, mode, pc_ahead, r15, at_next, jumped}
 
 -- the two choices that find a register
 abbrev look : Bool → Bool → Bool → Regs → ℕ → ℕ
@@ -205,6 +205,31 @@ mode_few : (svc : Bool) → mode svc ≤ 3
 mode_few true = omega arith
 mode_few false = omega arith
 
+-- registers stay valid
+pub valid-with_register : (r : Regs) (n value : ℕ) → IsValidRegs r → IsValidRegs (with_register r n value)
+valid-with_register r n value valid =
+    let same_pc = pc-with_register r n value in
+    let same_psr = psr-with_register r n value in
+    let aligned = valid.aligned in
+    let low = valid.pc in
+    let flags = valid.psr in
+    record { aligned = omega (arith, same_pc, aligned); pc = omega (arith, same_pc, low); psr = omega (arith, same_psr, flags) }
+
+pub valid-with_flags : (n z c v : Bool) (r : Regs) → IsValidRegs r → IsValidRegs (with_flags n z c v r)
+unfolding with_flags
+valid-with_flags n z c v r valid =
+    let a = from_bool-lt n in let b = from_bool-lt z in let d = from_bool-lt c in let e = from_bool-lt v in
+    record { aligned = valid.aligned; pc = valid.pc; psr = omega (arith, a, b, d, e) }
+
+pub valid-at_pc : (r : Regs) (pc : ℕ) → IsValidRegs r → pc % 4 ≡ 0 → pc < PC_END → IsValidRegs (record r { pc = pc })
+valid-at_pc r pc valid aligned low = record { aligned = aligned; pc = low; psr = valid.psr }
+
+pub valid-at_next : (r : Regs) → IsValidRegs r → IsValidRegs (at_next r)
+valid-at_next r valid = let aligned = valid.aligned in valid-at_pc r (pc_ahead r 4) valid (omega (arith, aligned)) (omega arith)
+
+pub valid-jumped : (r : Regs) (value : ℕ) → IsValidRegs r → IsValidRegs (jumped r value)
+valid-jumped r value valid = valid-at_pc r (value % PC_END / 4 * 4) valid (omega arith) (omega arith)
+
 -- R15: the PC and the mode are below 2^26, the whole is a word, and a jump to it goes to its PC
 pub r15-pc_lt : (r : Regs) (ahead : ℕ) → IsValidRegs r → ahead % 4 ≡ 0 → pc_ahead r ahead + mode r.svc < PC_END
 r15-pc_lt r ahead valid whole = let aligned = valid.aligned in let few = mode_few r.svc in omega (arith, aligned, whole, few)
@@ -229,6 +254,10 @@ r15-at_pc r pc ahead = refl
 pub holds-always : (r : Regs) → holds 14 r ≡ true
 unfolding holds even_condition
 holds-always r = refl
+
+pub holds-never : (r : Regs) → holds 15 r ≡ false
+unfolding holds even_condition
+holds-never r = refl
 
 pub holds-eq : (n z c v : Bool) (r : Regs) → holds 0 (with_flags n z c v r) ≡ z
 unfolding holds even_condition

@@ -1,5 +1,6 @@
 -- One instruction at the PC: what is fetched, its condition, and its class.
-use Rattle.std.proofs.Common.{◌≡◌, ℕ, not, Bool, true, false, if◌then◌else◌, List, Some, None, refl, sym, ap, ◌∙◌}
+use Rattle.std.proofs.Common.{◌≡◌, ℕ, not, true, false, if◌then◌else◌, List, Some, None, refl, sym, ap, ◌∙◌}
+use Rattle.std.proofs.lemmas.Bool.{cond-true, cond-false}
 use Rattle.bv_io.specs.declared.report.Trap.TheVariants as traps
 use Rattle.arm_isa.specs.declared.classes.Class.{Class}
 use Rattle.arm_isa.specs.declared.classes.Class.TheVariants as classes
@@ -68,36 +69,28 @@ by_condition : (s : Space) (r : Regs) (bytes : List ℕ) (i : Instr) (f : Fetche
 unfolding word_step
 by_condition s r bytes i f = (λ j. if holds (condition_at s r bytes i f j) r then instruction_step s r bytes (f.meaning j) else with_memory bytes (ran (at_next r)))
 
-chosen : (b : Bool) (x y : Stepped) → b ≡ true → (if b then x else y) ≡ x
-chosen true x y e = refl
-chosen false x y e = cc
-
-not_chosen : (b : Bool) (x y : Stepped) → b ≡ false → (if b then x else y) ≡ y
-not_chosen true x y e = cc
-not_chosen false x y e = refl
-
 -- a condition that fails
 pub step-skipped : (s : Space) (r : Regs) (bytes : List ℕ) (i : Instr) → Fetches s r bytes i → holds (condition_of i) r ≡ false → cpu_step s r bytes ≡ goes (at_next r) bytes
 step-skipped s r bytes i f fails =
-    by_word s r bytes i f ∙ by_condition s r bytes i f ∙ not_chosen (holds (condition_of i) r) _ _ fails
+    by_word s r bytes i f ∙ by_condition s r bytes i f ∙ cond-false (holds (condition_of i) r) _ _ fails
 
 unlisted : (s : Space) (r : Regs) (bytes : List ℕ) (i : Instr) → is_unpredictable i ≡ false → instruction_step s r bytes i ≡ class_step s r bytes i
 unfolding instruction_step
-unlisted s r bytes i fine = not_chosen (is_unpredictable i) _ _ fine
+unlisted s r bytes i fine = cond-false (is_unpredictable i) _ _ fine
 
 when_listed : (s : Space) (r : Regs) (bytes : List ℕ) (i : Instr) → is_unpredictable i ≡ true → instruction_step s r bytes i ≡ with_memory bytes (trapped traps.Unpredictable r)
 unfolding instruction_step
-when_listed s r bytes i listed = chosen (is_unpredictable i) _ _ listed
+when_listed s r bytes i listed = cond-true (is_unpredictable i) _ _ listed
 
 -- a condition that holds, of an instruction that isn't left open
 pub step-by_class : (s : Space) (r : Regs) (bytes : List ℕ) (i : Instr) → Fetches s r bytes i → holds (condition_of i) r ≡ true → is_unpredictable i ≡ false → cpu_step s r bytes ≡ class_step s r bytes i
 step-by_class s r bytes i f meets open_not =
-    by_word s r bytes i f ∙ by_condition s r bytes i f ∙ chosen (holds (condition_of i) r) _ _ meets ∙ unlisted s r bytes i open_not
+    by_word s r bytes i f ∙ by_condition s r bytes i f ∙ cond-true (holds (condition_of i) r) _ _ meets ∙ unlisted s r bytes i open_not
 
 -- an instruction that is left open traps
 pub step-unpredictable : (s : Space) (r : Regs) (bytes : List ℕ) (i : Instr) → Fetches s r bytes i → holds (condition_of i) r ≡ true → is_unpredictable i ≡ true → cpu_step s r bytes ≡ with_memory bytes (trapped traps.Unpredictable r)
 step-unpredictable s r bytes i f meets listed =
-    by_word s r bytes i f ∙ by_condition s r bytes i f ∙ chosen (holds (condition_of i) r) _ _ meets ∙ when_listed s r bytes i listed
+    by_word s r bytes i f ∙ by_condition s r bytes i f ∙ cond-true (holds (condition_of i) r) _ _ meets ∙ when_listed s r bytes i listed
 
 -- a refused fetch traps
 pub step-no_fetch : (s : Space) (r : Regs) (bytes : List ℕ) → read_word s bytes (not r.svc) r.pc ≡ None → cpu_step s r bytes ≡ with_memory bytes (trapped traps.Fetch r)

@@ -179,7 +179,15 @@ pub offset-shifted : (r : Regs) (amount kind rm : ℕ) → amount < 32 → kind 
     → offset_of r true (amount * 2 ^ 7 + kind * 2 ^ 5 + rm) ≡ (shifted_by_field kind (register r rm) amount (carry r)).value
 offset-shifted r amount kind rm few four low = offset_value r (amount * 2 ^ 7 + kind * 2 ^ 5 + rm) _ (amount-shifted r amount kind rm few four low)
 
--- an address from a base and a number
+-- an address from a base and an offset: modulo 2^32, and where it doesn't pass an end
+pub moved-sum : (base offset : ℕ) → moved true base offset ≡ (base + offset) % 2 ^ 32
+unfolding moved
+moved-sum base offset = refl
+
+pub moved-difference : (base offset : ℕ) → moved false base offset ≡ (base + (2 ^ 32 - offset)) % 2 ^ 32
+unfolding moved
+moved-difference base offset = refl
+
 pub moved-up : (base offset : ℕ) → base + offset < 2 ^ 32 → moved true base offset ≡ base + offset
 unfolding moved
 moved-up base offset small = omega (arith, small)

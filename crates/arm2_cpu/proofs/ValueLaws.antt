@@ -5,7 +5,8 @@ use Rattle.std.proofs.lemmas.Int.{ints}
 use Rattle.std.proofs.lemmas.Bool.Decides.{nat_tests}
 use Rattle.std.specs.Int.{w32, cast_signed, from_bool}
 use Rattle.arm_isa.specs.Fields.{bits}
-use Rattle.arm_isa.specs.Immediates.{rotated, immediate_value}
+use Rattle.arm_isa.specs.Immediates.{rotated, turns_of, immediate_value}
+use Rattle.arm_isa.proofs.ImmediateLaws.{immediate_value-byte}
 use Rattle.arm2_cpu.specs.declared.operations.Computed.{Computed}
 use Rattle.arm2_cpu.specs.declared.operations.TheConstants.{AND, EOR, SUB, RSB, ADD, ADC, SBC, RSC, TST, TEQ, CMP, CMN, ORR, MOV, BIC}
 use Rattle.arm2_cpu.specs.declared.regs.Regs.{Regs}
@@ -15,7 +16,7 @@ use Rattle.arm2_cpu.specs.declared.shifts.TheConstants.{ASR}
 use Rattle.arm2_cpu.specs.Conditions.{has_bit, carry}
 use Rattle.arm2_cpu.specs.Operands.{by_register, first_operand, second_operand, whole_operand, immediate_operand, amount_operand, register_operand}
 use Rattle.arm2_cpu.specs.Operations.{is_signed_word, added, subtracted, logical, computed}
-use Rattle.arm2_cpu.specs.Registers.{register, pc_ahead}
+use Rattle.arm2_cpu.specs.Registers.{register, pc_ahead, r15}
 use Rattle.arm2_cpu.specs.Shifts.{complement, shifted_by_field, shifted}
 use Rattle.arm2_cpu.proofs.ShiftValues.{shifted-lsl, shifted-lsr, shifted-ror, field-amount, field-lsl_0}
 
@@ -254,14 +255,26 @@ pub whole-register : (r : Regs) (ahead n : ℕ) → n < 15 → whole_operand r a
 unfolding whole_operand
 whole-register r ahead n low = rw (not_r15 n low) refl
 
+pub whole-pc : (r : Regs) (ahead : ℕ) → whole_operand r ahead 15 ≡ r15 r ahead
+unfolding whole_operand
+whole-pc r ahead = refl
+
 pub second-immediate : (r : Regs) (op2 : ℕ) → (second_operand r true op2).value ≡ immediate_value op2
 unfolding second_operand immediate_operand
 second-immediate r op2 = refl
 
 -- an immediate with its carry
-pub second-immediate_carry : (r : Regs) (op2 : ℕ) → second_operand r true op2 ≡ immediate_operand op2 (carry r)
-unfolding second_operand
+pub second-immediate_carry : (r : Regs) (op2 : ℕ)
+    → second_operand r true op2 ≡ record { value = immediate_value op2; carry = if turns_of op2 == 0 then carry r else has_bit (immediate_value op2) 31 }
+unfolding second_operand immediate_operand
 second-immediate_carry r op2 = refl
+
+-- a byte: C stays
+pub second-byte : (r : Regs) (op2 : ℕ) → op2 < 256 → second_operand r true op2 ≡ record { value = op2; carry = carry r }
+second-byte r op2 small =
+    let unturned : turns_of op2 ≡ 0 = omega (arith, small) in
+    second-immediate_carry r op2
+    ∙ (λ i. record { value = immediate_value-byte op2 small i; carry = if unturned i == 0 then carry r else has_bit (immediate_value op2) 31 })
 
 -- a register whose shift has its amount in the instruction, and one that isn't shifted
 pub shift_is_amount : (amount kind rm : ℕ) → kind < 4 → rm < 15 → by_register false (amount * 2 ^ 7 + kind * 2 ^ 5 + rm) ≡ false
