@@ -1,5 +1,5 @@
 -- The laws at work: a few instructions at the PC, by their words.
-use Rattle.std.proofs.Common.{length, ◌*◌, ◌-◌, ◌≤◌, ◌∷◌, [], None, ◌≡◌, ℕ, ◌+◌, ◌%◌, ◌^◌, ◌<◌, ◌==◌, not, true, false, List, Some, ℤ, pos, ◌+ℤ◌, refl, ◌∙◌, ap, arith}
+use Rattle.std.proofs.Common.{length, ◌*◌, ◌-◌, ◌≤◌, ◌∷◌, [], None, ◌≡◌, ℕ, ◌+◌, ◌/◌, ◌%◌, ◌^◌, ◌<◌, ◌==◌, not, true, false, List, Some, ℤ, pos, ◌+ℤ◌, refl, ◌∙◌, ap, arith}
 use Rattle.std.specs.Int.{w32, cast_signed}
 use Rattle.arm_isa.specs.declared.instruction.Instr.TheVariants.{Block, Branch, Data, Single, Swi}
 use Rattle.arm_isa.specs.Words.{word_of, FitsOffset}
@@ -9,10 +9,12 @@ use Rattle.arm_isa.proofs.ImmediateLaws.{immediate_value-byte}
 use Rattle.arm2_cpu.specs.declared.event.CpuEvent.TheVariants as events
 use Rattle.arm2_cpu.specs.declared.regs.Regs.{Regs}
 use Rattle.arm2_cpu.specs.declared.shifts.Shifted.{Shifted}
+use Rattle.arm2_cpu.specs.declared.shifts.TheConstants.{ASR}
 use Rattle.arm2_cpu.specs.Branch.{branch_target}
-use Rattle.arm2_cpu.specs.Conditions.{has_bit, with_flags}
+use Rattle.arm2_cpu.specs.Conditions.{has_bit, carry, with_flags}
 use Rattle.arm2_cpu.specs.Data.{flagged}
 use Rattle.arm2_cpu.specs.Operations.{is_signed_word}
+use Rattle.arm2_cpu.specs.Shifts.{shifted}
 use Rattle.arm2_cpu.specs.Memory.{Space, read_word, word_at, with_word}
 use Rattle.arm2_cpu.specs.Registers.{IsValidRegs, register, with_register, at_next, jumped, pc_ahead, r15}
 use Rattle.arm2_cpu.specs.Step.{cpu_step}
@@ -22,8 +24,9 @@ use Rattle.arm2_cpu.specs.Access.{moved, offset_of}
 use Rattle.arm2_cpu.proofs.RegisterLaws.{holds-always, holds-at_pc, holds-vs, holds-with_register, pc-with_flags, pc-with_register, r15-jump, register-at_pc, register-same, svc-with_flags, svc-with_register}
 use Rattle.arm2_cpu.proofs.StepBasics.{goes, fetches_word}
 use Rattle.arm2_cpu.proofs.TransferLaws.{block_start, step-ldm_pc, step-ldr, step-stm, with_words-more, with_words-none, offset-lsl, fine-offset_lsl, moved-up, moved-down, with_block-more, with_block-none, refused-more, refused-none}
-use Rattle.arm2_cpu.proofs.ValueLaws.{first-register, plain_is_amount, second-plain, summed}
-use Rattle.arm2_cpu.proofs.StepLaws.{step-adds, step-branch, step-branch_link, step-mov_immediate, step-data_immediate, step-jump_register, step-swi}
+use Rattle.arm2_cpu.proofs.ValueLaws.{first-register, plain_is_amount, shift_is_amount, fine-by_register, second-plain, second-lsl, second-by_register, summed}
+use Rattle.arm2_cpu.proofs.ShiftValues.{shifted-asr_high}
+use Rattle.arm2_cpu.proofs.StepLaws.{step-data, step-mov_by_register, step-adds, step-branch, step-branch_link, step-mov_immediate, step-data_immediate, step-jump_register, step-swi}
 
 -- MOV Rd,#n, of a byte
 mov_byte : (s : Space) (r : Regs) (bytes : List ℕ) (rd n : ℕ) → rd < 15 → n < 256
@@ -40,6 +43,28 @@ add_one : (s : Space) (r : Regs) (bytes : List ℕ) → register r 0 < 2 ^ 32
 unfolding word_of
 add_one s r bytes small word =
     step-data_immediate s r bytes 14 4 0 0 1 (fetches_word (Data 14 true 4 false 0 0 1) (valid_by_test _ refl) word) (holds-always r) refl (omega arith) (omega arith) small
+
+-- ADD R0,R1,R2,LSL #2
+add_shifted : (s : Space) (r : Regs) (bytes : List ℕ) (base index : ℕ) → register r 1 ≡ base → register r 2 ≡ index → base < 2 ^ 32 → 4 * index < 2 ^ 32
+    → read_word s bytes (not r.svc) r.pc ≡ Some 0xe0810102
+    → cpu_step s r bytes ≡ goes (at_next (with_register r 0 ((base + 4 * index) % 2 ^ 32))) bytes
+unfolding word_of
+add_shifted s r bytes base index is_base is_index small below word =
+    step-data s r bytes 14 false 4 1 0 258 base (4 * index) (fetches_word (Data 14 false 4 false 1 0 258) (valid_by_test _ refl) word) (holds-always r) refl
+    (shift_is_amount 2 0 2 (omega arith) (omega arith)) (omega arith) (first-register r 8 1 (omega arith) ∙ is_base)
+    (second-lsl r 2 2 (omega arith) (omega arith) (omega arith) ∙ omega (arith, is_index, below)) small below
+
+-- MOV R0,R1,ASR R2 of a word with the sign: the bits that come in are 1
+shift_by_register : (s : Space) (r : Regs) (bytes : List ℕ) (n by : ℕ) → register r 1 ≡ n → register r 2 ≡ by → 2 ^ 31 ≤ n → n < 2 ^ 32 → 0 < by → by ≤ 32
+    → read_word s bytes (not r.svc) r.pc ≡ Some 0xe1a00251
+    → cpu_step s r bytes ≡ goes (at_next (with_register r 0 (n / 2 ^ by + (2 ^ 32 - 2 ^ (32 - by))))) bytes
+unfolding word_of
+shift_by_register s r bytes n by is_n is_by high small some few word =
+    let amount : register r 2 % 2 ^ 8 ≡ by = omega (arith, is_by, few) in
+    step-mov_by_register s r bytes 14 0 0 593 _ (fetches_word (Data 14 false 13 false 0 0 593) (valid_by_test _ refl) word) (holds-always r)
+    (fine-by_register 2 2 1 (omega arith) (omega arith) (omega arith)) (omega arith)
+    (ap (λ (x : Shifted). x.value)
+    (second-by_register r 2 2 1 (omega arith) (omega arith) (omega arith) ∙ (λ i. shifted ASR (is_n i) (amount i) (carry r)) ∙ shifted-asr_high n by (carry r) high small some few))
 
 -- LDR R0,[R1,R2,LSL #2]: the word that an index of words leads to
 load_indexed : (s : Space) (r : Regs) (bytes : List ℕ) (base index : ℕ) → register r 1 ≡ base → register r 2 ≡ index

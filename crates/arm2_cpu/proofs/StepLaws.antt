@@ -113,6 +113,10 @@ pub step-mov_register : (s : Space) (r : Regs) (bytes : List ℕ) (cond rn rd rm
 step-mov_register s r bytes cond rn rd rm f meets low other =
     step-mov s r bytes cond false rn rd rm (register r rm) f meets (plain_is_amount rm other) low (ap (λ (x : Shifted). x.value) (second-plain r rm other))
 
+-- a shift whose amount is in a register below R15
+not_open_by_register : (op : ℕ) (flags : Bool) (op2 : ℕ) → (is_test op && not flags) ≡ false → (bits op2 11 8 == R15) ≡ false → is_open_data false op flags op2 ≡ false
+not_open_by_register op flags op2 no_test amount = (λ i. no_test i || (by_register false op2 && amount i)) ∙ and-false (by_register false op2)
+
 -- data processing whose shift has its amount in a register, from a register
 pub step-data_by_register : (s : Space) (r : Regs) (bytes : List ℕ) (cond op rn rd op2 b : ℕ)
     → Fetches s r bytes (Data cond false op false rn rd op2) → holds cond r ≡ true → is_test op ≡ false → (bits op2 11 8 == R15) ≡ false → rn < 15 → rd < 15
@@ -120,11 +124,21 @@ pub step-data_by_register : (s : Space) (r : Regs) (bytes : List ℕ) (cond op r
     → cpu_step s r bytes ≡ goes (at_next (with_register r rd (value_of op (register r rn) b (carry r)))) bytes
 step-data_by_register s r bytes cond op rn rd op2 b f meets no_test amount from low second small below =
     let one = first-register r (ahead_of false op2) rn from in
-    data_by_class s r bytes cond false op false rn rd op2 f meets (λ i. (no_test i && not false) || (ap (λ t. by_register false op2 && t) amount ∙ and-false (by_register false op2)) i)
+    data_by_class s r bytes cond false op false rn rd op2 f meets (not_open_by_register op false op2 (λ i. no_test i && not false) amount)
     ∙ ap (with_memory bytes) (data_plain r false op rn rd op2 no_test low)
     ∙ ap (λ v. goes (at_next (with_register r rd v)) bytes)
     (value-computed op (first_operand r (ahead_of false op2) rn) (second_operand r false op2) (carry r) (overflow r) (omega (arith, one, small)) (omega (arith, second, below))
     ∙ (λ i. value_of op (one i) (second i) (carry r)))
+
+-- MOV Rd,Rm whose shift has its amount in a register, whatever Rn is
+pub step-mov_by_register : (s : Space) (r : Regs) (bytes : List ℕ) (cond rn rd op2 b : ℕ)
+    → Fetches s r bytes (Data cond false MOV false rn rd op2) → holds cond r ≡ true → (bits op2 11 8 == R15) ≡ false → rd < 15
+    → (second_operand r false op2).value ≡ b
+    → cpu_step s r bytes ≡ goes (at_next (with_register r rd b)) bytes
+step-mov_by_register s r bytes cond rn rd op2 b f meets amount low second =
+    data_by_class s r bytes cond false MOV false rn rd op2 f meets (not_open_by_register MOV false op2 refl amount)
+    ∙ ap (with_memory bytes) (data_plain r false MOV rn rd op2 refl low)
+    ∙ ap (λ v. goes (at_next (with_register r rd v)) bytes) (moved_value r false rn op2 ∙ second)
 
 -- ---- flags
 
@@ -144,10 +158,22 @@ step-data_flags s r bytes cond imm op rn rd op2 x f meets no_test no_register lo
     ∙ ap (with_memory bytes) (data_flagged r imm op rn rd op2 no_test low)
     ∙ ap (λ y. goes (at_next (with_register (flagged y r) rd y.value)) bytes) is
 
+pub step-data_flags_by_register : (s : Space) (r : Regs) (bytes : List ℕ) (cond op rn rd op2 : ℕ) (x : Computed)
+    → Fetches s r bytes (Data cond false op true rn rd op2) → holds cond r ≡ true → is_test op ≡ false → (bits op2 11 8 == R15) ≡ false → rd < 15
+    → outcome r false op rn op2 ≡ x
+    → cpu_step s r bytes ≡ goes (at_next (with_register (flagged x r) rd x.value)) bytes
+step-data_flags_by_register s r bytes cond op rn rd op2 x f meets no_test amount low is =
+    data_by_class s r bytes cond false op true rn rd op2 f meets (not_open_by_register op true op2 (and-false (is_test op)) amount)
+    ∙ ap (with_memory bytes) (data_flagged r false op rn rd op2 no_test low)
+    ∙ ap (λ y. goes (at_next (with_register (flagged y r) rd y.value)) bytes) is
+
 -- the outcome by its operands
 pub outcome-of : (r : Regs) (imm : Bool) (op rn op2 a : ℕ) (b : Shifted) → by_register imm op2 ≡ false → first_operand r 8 rn ≡ a → second_operand r imm op2 ≡ b
     → outcome r imm op rn op2 ≡ computed op a b (carry r) (overflow r)
 outcome-of r imm op rn op2 a b no_register first second = (λ i. computed op (first_at r imm rn op2 a no_register first i) (second i) (carry r) (overflow r))
+
+pub outcome-by_register : (r : Regs) (op rn op2 : ℕ) (b : Shifted) → rn < 15 → second_operand r false op2 ≡ b → outcome r false op rn op2 ≡ computed op (register r rn) b (carry r) (overflow r)
+outcome-by_register r op rn op2 b from second = (λ i. computed op (first-register r (ahead_of false op2) rn from i) (second i) (carry r) (overflow r))
 
 -- ADDS: N and Z by the sum, C where it passes 32 bits, V where the signed sum is out of range
 pub step-adds : (s : Space) (r : Regs) (bytes : List ℕ) (cond : ℕ) (imm : Bool) (rn rd op2 a b : ℕ)
@@ -181,6 +207,15 @@ pub step-test : (s : Space) (r : Regs) (bytes : List ℕ) (cond : ℕ) (imm : Bo
 step-test s r bytes cond imm op rn rd op2 x f meets test no_register low is =
     data_by_class s r bytes cond imm op true rn rd op2 f meets (not_open imm op true op2 (and-false (is_test op)) no_register)
     ∙ ap (with_memory bytes) (data_tested r imm op true rn rd op2 test low)
+    ∙ ap (λ y. goes (at_next (flagged y r)) bytes) is
+
+pub step-test_by_register : (s : Space) (r : Regs) (bytes : List ℕ) (cond op rn rd op2 : ℕ) (x : Computed)
+    → Fetches s r bytes (Data cond false op true rn rd op2) → holds cond r ≡ true → is_test op ≡ true → (bits op2 11 8 == R15) ≡ false → rd < 15
+    → outcome r false op rn op2 ≡ x
+    → cpu_step s r bytes ≡ goes (at_next (flagged x r)) bytes
+step-test_by_register s r bytes cond op rn rd op2 x f meets test amount low is =
+    data_by_class s r bytes cond false op true rn rd op2 f meets (not_open_by_register op true op2 (and-false (is_test op)) amount)
+    ∙ ap (with_memory bytes) (data_tested r false op true rn rd op2 test low)
     ∙ ap (λ y. goes (at_next (flagged y r)) bytes) is
 
 compared_outcome : (r : Regs) (imm : Bool) (rn op2 a b : ℕ) → by_register imm op2 ≡ false → first_operand r 8 rn ≡ a → (second_operand r imm op2).value ≡ b → a < 2 ^ 32 → b < 2 ^ 32

@@ -67,6 +67,31 @@ value-computed op a b c v small below =
     (difference_value a b.value below) (difference_value b.value a small) (plain_sum a b.value)
     (sum_value a b.value c) (sum_value a (complement b.value) c) (sum_value b.value (complement a) c) refl
 
+-- the operations without a sum (MVN is operation 15)
+pub value-and : (a b : ℕ) (c : Bool) → value_of AND a b c ≡ bit_and a b
+unfolding logical
+value-and a b c = refl
+
+pub value-eor : (a b : ℕ) (c : Bool) → value_of EOR a b c ≡ bit_xor a b
+unfolding logical
+value-eor a b c = refl
+
+pub value-orr : (a b : ℕ) (c : Bool) → value_of ORR a b c ≡ bit_or a b
+unfolding logical
+value-orr a b c = refl
+
+pub value-mov : (a b : ℕ) (c : Bool) → value_of MOV a b c ≡ b
+unfolding logical
+value-mov a b c = refl
+
+pub value-bic : (a b : ℕ) (c : Bool) → value_of BIC a b c ≡ bit_and a (complement b)
+unfolding logical
+value-bic a b c = refl
+
+pub value-mvn : (a b : ℕ) (c : Bool) → value_of 15 a b c ≡ complement b
+unfolding logical
+value-mvn a b c = refl
+
 -- CMP and SUB: C is set where nothing is borrowed, V where the signed difference is out of range
 abbrev pub compared : ℕ → ℕ → Computed
 compared a b = record {
@@ -229,7 +254,6 @@ pub computed-bic : (a : ℕ) (b : Shifted) (c v : Bool) → computed BIC a b c v
 unfolding computed logical
 computed-bic a b c v = refl
 
--- MVN is operation 15
 pub computed-mvn : (a : ℕ) (b : Shifted) (c v : Bool) → computed 15 a b c v ≡ carried (complement b.value) b v
 unfolding computed logical
 computed-mvn a b c v = refl
@@ -350,7 +374,10 @@ second-ror r amount rm some few low =
     ∙ ap (λ (x : Shifted). x.value) (shifted-ror (register r rm) amount (carry r) some)
     ∙ ap (rotated (register r rm)) (let e : amount % 32 ≡ amount = omega (arith, few) in e)
 
--- Rm shifted by a register's low byte
+-- Rm shifted by a register's low byte, which is left open of R15
+pub fine-by_register : (rs kind rm : ℕ) → rs < 15 → kind < 4 → rm < 15 → (bits (rs * 2 ^ 8 + kind * 2 ^ 5 + 1 * 2 ^ 4 + rm) 11 8 == R15) ≡ false
+fine-by_register rs kind rm amount four low = ne_eqb (bits (rs * 2 ^ 8 + kind * 2 ^ 5 + 1 * 2 ^ 4 + rm) 11 8) 15 (λ e. omega (arith, e, amount, four, low))
+
 pub second-by_register : (r : Regs) (rs kind rm : ℕ) → rs < 16 → kind < 4 → rm < 15
     → second_operand r false (rs * 2 ^ 8 + kind * 2 ^ 5 + 1 * 2 ^ 4 + rm) ≡ shifted kind (register r rm) (register r rs % 2 ^ 8) (carry r)
 unfolding second_operand register_operand
