@@ -14,5 +14,6 @@ pub mod StepLaws
 pub mod TransferLaws
 pub mod TrapLaws
 pub mod SignedLaws
+pub mod ConditionLaws
 mod Examples
 pub mod MemoryFunctions
