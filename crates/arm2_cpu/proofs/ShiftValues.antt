@@ -1,4 +1,4 @@
--- What each shift gives of a word, in plain numbers. Kind 3 is ROR.
+-- What each shift gives of a word, in plain numbers.
 use Rattle.std.proofs.Common.{◌≡◌, ℕ, ◌+◌, ◌-◌, ◌*◌, ◌/◌, ◌%◌, ◌^◌, ◌<◌, ◌≤◌, ◌==◌, not, nat_lt, Bool, true, false, refl, sym, ap, ◌∙◌, arith, eq-eqb, ltb-true, ltb-false}
 use Rattle.std.proofs.lemmas.Bool.{ne_eqb}
 use Rattle.std.proofs.lemmas.Bool.Decides.{nat_tests}
@@ -7,7 +7,7 @@ use Rattle.std.proofs.Math.Nat.{div-div-eq-div-mul}
 use Rattle.std.proofs.Math.Pow.{pow_mono}
 use Rattle.std.specs.Int.{from_bool}
 use Rattle.arm_isa.specs.Immediates.{rotated}
-use Rattle.arm2_cpu.specs.declared.shifts.TheConstants.{LSL, LSR, ASR}
+use Rattle.arm2_cpu.specs.declared.shifts.TheConstants.{LSL, LSR, ASR, ROR}
 use Rattle.arm2_cpu.specs.Conditions.{has_bit}
 use Rattle.arm2_cpu.specs.Shifts.{complement, complemented, shifted_left, shifted_right, shifted_signed, turned_right, shifted, rotated_through_carry, shifted_by_field}
 use Rattle.arm2_cpu.proofs.ShiftLaws.{left_far, right_far}
@@ -118,12 +118,12 @@ shifted-asr_high_far n by c high small far = cases (nat_lt 32 by) refl
         ∙ (λ i. record { value = value i; carry = sign-high n high small i })
 
 -- ROR by 1 or more counts modulo 32
-pub shifted-ror : (n by : ℕ) (c : Bool) → 0 < by → shifted 3 n by c ≡ record { value = rotated n (by % 32); carry = has_bit (rotated n (by % 32)) 31 }
+pub shifted-ror : (n by : ℕ) (c : Bool) → 0 < by → shifted ROR n by c ≡ record { value = rotated n (by % 32); carry = has_bit (rotated n (by % 32)) 31 }
 unfolding shifted turned_right
 shifted-ror n by c some = rw (ne_eqb by 0 (λ e. omega (arith, e, some))) refl
 
 -- ROR by a multiple of 32 keeps the value
-pub shifted-ror_whole : (n by : ℕ) (c : Bool) → 0 < by → by % 32 ≡ 0 → shifted 3 n by c ≡ record { value = n; carry = has_bit n 31 }
+pub shifted-ror_whole : (n by : ℕ) (c : Bool) → 0 < by → by % 32 ≡ 0 → shifted ROR n by c ≡ record { value = n; carry = has_bit n 31 }
 shifted-ror_whole n by c some whole =
     let same : rotated n (by % 32) ≡ n = ap (rotated n) whole ∙ (let e : rotated n 0 ≡ n = omega arith in e) in
     shifted-ror n by c some ∙ (λ i. record { value = same i; carry = has_bit (same i) 31 })
@@ -149,6 +149,6 @@ unfolding shifted_by_field
 field-asr_32 n c = refl
 
 -- RRX, whose five bits are 0
-pub field-rrx : (n : ℕ) (c : Bool) → shifted_by_field 3 n 0 c ≡ record { value = from_bool c * 2 ^ 31 + n / 2; carry = has_bit n 0 }
+pub field-rrx : (n : ℕ) (c : Bool) → shifted_by_field ROR n 0 c ≡ record { value = from_bool c * 2 ^ 31 + n / 2; carry = has_bit n 0 }
 unfolding shifted_by_field rotated_through_carry
 field-rrx n c = refl

@@ -1,5 +1,5 @@
 -- One instruction at the PC that multiplies, or that reads or writes memory: exactly these registers and this memory.
-use Rattle.std.proofs.Common.{◌-◌, ◌≤◌, ◌≡◌, ℕ, suc, ◌+◌, ◌*◌, ◌%◌, ◌^◌, ◌<◌, ◌==◌, ◌||◌, ◌&&◌, not, Bool, true, false, if◌then◌else◌, List, [], ◌∷◌, length, Option, Some, None, refl, sym, ap, ◌∙◌, arith, lt-ltb}
+use Rattle.std.proofs.Common.{◌-◌, ◌≤◌, ◌≡◌, ℕ, zero, suc, ◌+◌, ◌*◌, ◌%◌, ◌^◌, ◌<◌, ◌==◌, ◌||◌, ◌&&◌, not, Bool, true, false, if◌then◌else◌, List, [], ◌∷◌, length, Option, Some, None, refl, sym, ap, ◌∙◌, arith, lt-ltb}
 use Rattle.std.proofs.Math.Bool.{or-false}
 use Rattle.std.proofs.lemmas.Bool.{ne_eqb}
 use Rattle.arm_isa.specs.declared.instruction.Instr.TheVariants.{Mul, Single, Block}
@@ -439,3 +439,12 @@ refused-none s user at = refl
 pub refused-more : (k : ℕ) (s : Space) (user : Bool) (at : ℕ) → at < PC_END → s.allows user at ≡ true → refused_word k s user (next_word at) ≡ None → refused_word (suc k) s user at ≡ None
 unfolding refused_word
 refused-more k s user at low allowed rest = rw (lt-ltb at PC_END low, allowed) rest
+
+-- a block whose words may all be used
+pub refused-range : (k : ℕ) (s : Space) (user : Bool) (at : ℕ) → at + 4 * k ≤ PC_END → ((i : ℕ) → i < k → s.allows user (at + 4 * i) ≡ true) → refused_word k s user at ≡ None
+refused-range zero s user at low allowed = refused-none s user at
+refused-range (suc k) s user at low allowed =
+    let behind : next_word at ≡ at + 4 = omega (arith, low) in
+    refused-more k s user at (omega (arith, low)) (ap (s.allows user) (let e : at ≡ at + 4 * 0 = omega arith in e) ∙ allowed 0 (omega arith))
+    (ap (refused_word k s user) behind
+    ∙ refused-range k s user (at + 4) (omega (arith, low)) (λ i within. ap (s.allows user) (let e : at + 4 + 4 * i ≡ at + 4 * suc i = omega arith in e) ∙ allowed (suc i) (omega (arith, within))))

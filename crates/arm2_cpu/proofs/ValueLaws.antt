@@ -8,7 +8,7 @@ use Rattle.arm_isa.specs.Fields.{bits}
 use Rattle.arm_isa.specs.Immediates.{rotated, turns_of, immediate_value}
 use Rattle.arm_isa.proofs.ImmediateLaws.{immediate_value-byte}
 use Rattle.arm2_cpu.specs.declared.operations.Computed.{Computed}
-use Rattle.arm2_cpu.specs.declared.operations.TheConstants.{AND, EOR, SUB, RSB, ADD, ADC, SBC, RSC, TST, TEQ, CMP, CMN, ORR, MOV, BIC}
+use Rattle.arm2_cpu.specs.declared.operations.TheConstants.{AND, EOR, SUB, RSB, ADD, ADC, SBC, RSC, TST, TEQ, CMP, CMN, ORR, MOV, BIC, MVN}
 use Rattle.arm2_cpu.specs.declared.regs.Regs.{Regs}
 use Rattle.arm2_cpu.specs.declared.regs.TheConstants.{R15}
 use Rattle.arm2_cpu.specs.declared.shifts.Shifted.{Shifted}
@@ -67,7 +67,7 @@ value-computed op a b c v small below =
     (difference_value a b.value below) (difference_value b.value a small) (plain_sum a b.value)
     (sum_value a b.value c) (sum_value a (complement b.value) c) (sum_value b.value (complement a) c) refl
 
--- the operations without a sum (MVN is operation 15)
+-- the operations without a sum
 pub value-and : (a b : ℕ) (c : Bool) → value_of AND a b c ≡ bit_and a b
 unfolding logical
 value-and a b c = refl
@@ -88,7 +88,7 @@ pub value-bic : (a b : ℕ) (c : Bool) → value_of BIC a b c ≡ bit_and a (com
 unfolding logical
 value-bic a b c = refl
 
-pub value-mvn : (a b : ℕ) (c : Bool) → value_of 15 a b c ≡ complement b
+pub value-mvn : (a b : ℕ) (c : Bool) → value_of MVN a b c ≡ complement b
 unfolding logical
 value-mvn a b c = refl
 
@@ -254,7 +254,7 @@ pub computed-bic : (a : ℕ) (b : Shifted) (c v : Bool) → computed BIC a b c v
 unfolding computed logical
 computed-bic a b c v = refl
 
-pub computed-mvn : (a : ℕ) (b : Shifted) (c v : Bool) → computed 15 a b c v ≡ carried (complement b.value) b v
+pub computed-mvn : (a : ℕ) (b : Shifted) (c v : Bool) → computed MVN a b c v ≡ carried (complement b.value) b v
 unfolding computed logical
 computed-mvn a b c v = refl
 

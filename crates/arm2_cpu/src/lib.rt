@@ -24,8 +24,8 @@ pub use access::Access;
 pub use event::CpuEvent;
 pub use memory::Memory;
 pub use operations::{
-    ADC, ADD, AND, BIC, CMN, CMP, Computed, EOR, MOV, ORR, RSB, RSC, SBC, SUB, TEQ, TST,
+    ADC, ADD, AND, BIC, CMN, CMP, Computed, EOR, MOV, MVN, ORR, RSB, RSC, SBC, SUB, TEQ, TST,
 };
 pub use regs::{PC_END, PSR_END, R15, Regs};
-pub use shifts::{ASR, LSL, LSR, Shifted};
+pub use shifts::{ASR, LSL, LSR, ROR, Shifted};
 pub use step::step_cpu;

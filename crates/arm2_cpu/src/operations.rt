@@ -49,6 +49,9 @@ pub const MOV: u8 = 13;
 /// `Rn AND NOT operand`.
 pub const BIC: u8 = 14;
 
+/// `NOT operand`.
+pub const MVN: u8 = 15;
+
 /// What an operation gives.
 #[derive(Clone, Copy)]
 pub struct Computed {

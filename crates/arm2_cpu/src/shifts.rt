@@ -12,6 +12,9 @@ pub const LSR: u8 = 1;
 /// Arithmetic shift right.
 pub const ASR: u8 = 2;
 
+/// Rotation right.
+pub const ROR: u8 = 3;
+
 /// A word that was shifted.
 #[derive(Clone, Copy)]
 pub struct Shifted {

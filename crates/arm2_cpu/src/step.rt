@@ -128,8 +128,9 @@ fn execute_word<M: Memory>(regs: &mut Regs, mem: &mut M, word: u32) -> CpuEvent
 }
 
 #[tactic(auto, unfolding(crate::specs::Step::cpu_step))]
-/// Makes one instruction of the ARM2 (VL86C010 (ARM2) data manual): the one at the PC, in the current mode. The registers
-/// and the memory are those that it leaves; after a trap they are as they were.
+/// Makes one instruction of the ARM2 (VL86C010 (ARM2) data manual): the one at the PC, in the current mode. The registers,
+/// of which `Regs::is_valid` tells whether they can be given, and the memory are those that it leaves; after a trap they
+/// are as they were.
 pub fn step_cpu<M: Memory>(regs: &mut Regs, mem: &mut M) -> CpuEvent
     requires { IsValidRegs regs.old }
     ensures value { cpu_step M.space regs.old (M.bytes mem.old) ≡ record { event = result; regs = regs.new; bytes = M.bytes mem.new } }
