@@ -23,8 +23,8 @@ use Rattle.arm2_cpu.specs.Block.{registers_among, registers_in, low_registers_in
 use Rattle.arm2_cpu.specs.Access.{moved, offset_of}
 use Rattle.arm2_cpu.proofs.RegisterLaws.{holds-always, holds-at_pc, holds-vs, holds-with_register, pc-with_flags, pc-with_register, r15-jump, register-at_pc, register-same, svc-with_flags, svc-with_register}
 use Rattle.arm2_cpu.proofs.StepBasics.{goes, fetches_word}
-use Rattle.arm2_cpu.proofs.TransferLaws.{block_start, step-ldm_pc, step-ldr, step-stm, with_words-more, with_words-none, offset-lsl, fine-offset_lsl, moved-up, moved-down, with_block-more, with_block-none, refused-more, refused-none}
-use Rattle.arm2_cpu.proofs.ValueLaws.{first-register, plain_is_amount, shift_is_amount, fine-by_register, second-plain, second-lsl, second-by_register, summed}
+use Rattle.arm2_cpu.proofs.TransferLaws.{block_start, step-ldm_pc, step-ldr, step-stm, with_words-more, with_words-none, offset-lsl, not_open-offset_lsl, moved-up, moved-down, with_block-more, with_block-none, refused-more, refused-none}
+use Rattle.arm2_cpu.proofs.ValueLaws.{first-register, plain_is_amount, shift_is_amount, not_open-by_register, second-plain, second-lsl, second-by_register, summed}
 use Rattle.arm2_cpu.proofs.ShiftValues.{shifted-asr_high}
 use Rattle.arm2_cpu.proofs.StepLaws.{step-data, step-mov_by_register, step-adds, step-branch, step-branch_link, step-mov_immediate, step-data_immediate, step-jump_register, step-swi}
 
@@ -62,7 +62,7 @@ unfolding word_of
 shift_by_register s r bytes n by is_n is_by high small some few word =
     let amount : register r 2 % 2 ^ 8 ≡ by = omega (arith, is_by, few) in
     step-mov_by_register s r bytes 14 0 0 593 _ (fetches_word (Data 14 false 13 false 0 0 593) (valid_by_test _ refl) word) (holds-always r)
-    (fine-by_register 2 2 1 (omega arith) (omega arith) (omega arith)) (omega arith)
+    (not_open-by_register 2 2 1 (omega arith) (omega arith) (omega arith)) (omega arith)
     (ap (λ (x : Shifted). x.value)
     (second-by_register r 2 2 1 (omega arith) (omega arith) (omega arith) ∙ (λ i. shifted ASR (is_n i) (amount i) (carry r)) ∙ shifted-asr_high n by (carry r) high small some few))
 
@@ -76,7 +76,7 @@ load_indexed s r bytes base index is_base is_index aligned low allowed word =
     let offset : offset_of r true 258 ≡ 4 * index = offset-lsl r 2 2 (omega arith) (omega arith) (omega arith) ∙ omega (arith, is_index, low) in
     let place = (λ i. moved true ((first-register r 8 1 (omega arith) ∙ is_base) i) (offset i)) ∙ moved-up base (4 * index) (omega (arith, low)) in
     step-ldr s r bytes 14 true true 1 0 258 (base + 4 * index) (fetches_word (Single 14 true true true false false true 1 0 258) (valid_by_test _ refl) word) (holds-always r)
-    (fine-offset_lsl 2 2 (omega arith)) (omega arith) place (omega (arith, aligned)) low allowed
+    (not_open-offset_lsl 2 2 (omega arith)) (omega arith) place (omega (arith, aligned)) low allowed
 
 -- MOV PC,R14
 return : (s : Space) (r : Regs) (bytes : List ℕ)

@@ -155,14 +155,14 @@ unfolding offset_of
 offset-number r offset = refl
 
 -- an offset that is Rm, or Rm shifted by a number of bits: it isn't left open
-pub fine-offset_register : (rm : ℕ) → rm < 15 → is_open_offset true rm ≡ false
-fine-offset_register rm low = ne_eqb (bits rm 3 0) 15 (λ e. omega (arith, e, low))
+pub not_open-offset_register : (rm : ℕ) → rm < 15 → is_open_offset true rm ≡ false
+not_open-offset_register rm low = ne_eqb (bits rm 3 0) 15 (λ e. omega (arith, e, low))
 
-pub fine-offset_shifted : (amount kind rm : ℕ) → rm < 15 → is_open_offset true (amount * 2 ^ 7 + kind * 2 ^ 5 + rm) ≡ false
-fine-offset_shifted amount kind rm low = ne_eqb (bits (amount * 2 ^ 7 + kind * 2 ^ 5 + rm) 3 0) 15 (λ e. omega (arith, e, low))
+pub not_open-offset_shifted : (amount kind rm : ℕ) → rm < 15 → is_open_offset true (amount * 2 ^ 7 + kind * 2 ^ 5 + rm) ≡ false
+not_open-offset_shifted amount kind rm low = ne_eqb (bits (amount * 2 ^ 7 + kind * 2 ^ 5 + rm) 3 0) 15 (λ e. omega (arith, e, low))
 
-pub fine-offset_lsl : (amount rm : ℕ) → rm < 15 → is_open_offset true (amount * 2 ^ 7 + rm) ≡ false
-fine-offset_lsl amount rm low = ne_eqb (bits (amount * 2 ^ 7 + rm) 3 0) 15 (λ e. omega (arith, e, low))
+pub not_open-offset_lsl : (amount rm : ℕ) → rm < 15 → is_open_offset true (amount * 2 ^ 7 + rm) ≡ false
+not_open-offset_lsl amount rm low = ne_eqb (bits (amount * 2 ^ 7 + rm) 3 0) 15 (λ e. omega (arith, e, low))
 
 -- and its value
 offset_value : (r : Regs) (offset : ℕ) (x : Shifted) → amount_operand r offset ≡ x → offset_of r true offset ≡ x.value
