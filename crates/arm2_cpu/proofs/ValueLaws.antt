@@ -3,6 +3,7 @@ use Rattle.std.proofs.Common.{◌≡◌, ℕ, suc, ◌+◌, ◌-◌, ◌*◌, �
 use Rattle.std.proofs.lemmas.Bool.{ne_eqb}
 use Rattle.std.proofs.lemmas.Int.{ints}
 use Rattle.std.proofs.lemmas.Bool.Decides.{nat_tests}
+use Rattle.std.proofs.lemmas.Nat.{and_le_l, or_lt, xor_lt}
 use Rattle.std.specs.Int.{w32, cast_signed, from_bool}
 use Rattle.arm_isa.specs.Fields.{bits}
 use Rattle.arm_isa.specs.Immediates.{rotated, turns_of, immediate_value}
@@ -91,6 +92,29 @@ value-bic a b c = refl
 pub value-mvn : (a b : ℕ) (c : Bool) → value_of MVN a b c ≡ complement b
 unfolding logical
 value-mvn a b c = refl
+
+-- an operation on words gives a word
+either_lt : (t : Bool) (x y : ℕ) → x < 2 ^ 32 → y < 2 ^ 32 → (if t then x else y) < 2 ^ 32
+either_lt true x y p q = p
+either_lt false x y p q = q
+
+logical_lt : (op a b : ℕ) → a < 2 ^ 32 → b < 2 ^ 32 → logical op a b < 2 ^ 32
+unfolding logical
+logical_lt op a b small below =
+    let other : complement b < 2 ^ 32 = omega arith in
+    either_lt ((op == AND) || (op == TST)) _ _ (let e = and_le_l a b in omega (arith, e, small))
+    (either_lt ((op == EOR) || (op == TEQ)) _ _ (xor_lt 32 a b small below)
+    (either_lt (op == ORR) _ _ (or_lt 32 a b small below)
+    (either_lt (op == MOV) _ _ below (either_lt (op == BIC) _ _ (let e = and_le_l a (complement b) in omega (arith, e, small)) other))))
+
+pub value-lt : (op a b : ℕ) (c : Bool) → a < 2 ^ 32 → b < 2 ^ 32 → value_of op a b c < 2 ^ 32
+value-lt op a b c small below =
+    either_lt ((op == SUB) || (op == CMP)) _ _ (omega arith)
+    (either_lt (op == RSB) _ _ (omega arith)
+    (either_lt ((op == ADD) || (op == CMN)) _ _ (omega arith)
+    (either_lt (op == ADC) _ _ (omega arith)
+    (either_lt (op == SBC) _ _ (omega arith)
+    (either_lt (op == RSC) _ _ (omega arith) (logical_lt op a b small below))))))
 
 -- CMP and SUB: C is set where nothing is borrowed, V where the signed difference is out of range
 abbrev pub compared : ℕ → ℕ → Computed
