@@ -1,175 +1,163 @@
 ghost use Rattle.std.specs.Prelude.{IsTrue};
 ghost use Rattle.arm2_cpu.specs.Registers.{IsValidRegs};
 
+use crate::fields::{Fields, decimal, hexadecimal};
+use crate::words::{Words, words_of};
 use arm2_cpu::{CpuEvent, PC_END, PSR_END, Regs};
 use bv_io::Trap;
 
-/// What is left of a line, whose fields are divided by single spaces.
-#[derive(Clone, Copy)]
-pub struct Fields<'a> {
-    rest: &'a str,
+/// One step of the processor.
+#[derive(Drop)]
+pub struct Case {
+    /// Where the memory ends.
+    pub end: u32,
+    /// The word at the PC, if it is to be had.
+    pub code: Option<u32>,
+    pub before: Regs,
+    /// Words of memory before the step.
+    pub words: Words,
+    pub event: CpuEvent,
+    pub after: Regs,
+    /// Words of memory that the step writes.
+    pub written: Words,
+    ghost valid: { IsValidRegs before },
 }
 
-/// The part before a mark and the part behind it, or all and nothing.
-pub fn cut(text: &str, mark: char) -> (&str, &str) {
-    match text.split_once(mark) {
-        Some(parts) => parts,
-        None => (text, ""),
+/// Whether a mode's name is that of supervisor mode.
+fn is_supervisor(name: &str) -> Option<bool> {
+    match name {
+        "u" => Some(false),
+        "s" => Some(true),
+        _ => None,
     }
-}
-
-impl<'a> Fields<'a> {
-    pub fn of(line: &'a str) -> Fields<'a> {
-        Fields { rest: line }
-    }
-
-    /// The next field, and what is left behind it.
-    pub fn next(self) -> (&'a str, Fields<'a>) {
-        let (field, rest) = cut(self.rest, ' ');
-        (field, Fields { rest })
-    }
-
-    /// The next field as a hexadecimal number, or 0.
-    pub fn number(self) -> (u32, Fields<'a>) {
-        let (field, left) = self.next();
-        (hexadecimal(field), left)
-    }
-}
-
-/// A hexadecimal number, or 0 for other texts.
-pub fn hexadecimal(text: &str) -> u32 {
-    u32::from_str_radix(text, 16).unwrap_or(0)
 }
 
 /// R0 to R12.
-fn low_registers(fields: Fields<'_>) -> ([u32; 13], Fields<'_>) {
+fn low_registers(fields: &mut Fields<'_>) -> Option<[u32; 13]> {
     let mut low = [0; 13];
-    let mut left = fields;
     for n in 0..13 {
-        let (value, rest) = left.number();
-        low[n] = value;
-        left = rest;
+        low[n] = fields.hexadecimal()?;
     }
-    (low, left)
+    Some(low)
 }
 
-/// The mode, with the registers without the PC and the flags, of fields 8 to 24.
-fn registers(svc: bool, pc: u32, psr: u8, fields: Fields<'_>) -> (Regs, Fields<'_>) {
-    let (low, left) = low_registers(fields);
-    let (user13, left) = left.number();
-    let (user14, left) = left.number();
-    let (svc13, left) = left.number();
-    let (svc14, left) = left.number();
-    let regs = Regs {
-        low,
-        user13,
-        user14,
-        svc13,
-        svc14,
+/// The mode, the PC and the flags, with the registers of the next 17 fields.
+fn registers(svc: bool, pc: u32, psr: u8, fields: &mut Fields<'_>) -> Option<Regs> {
+    Some(Regs {
+        low: low_registers(fields)?,
+        user13: fields.hexadecimal()?,
+        user14: fields.hexadecimal()?,
+        svc13: fields.hexadecimal()?,
+        svc14: fields.hexadecimal()?,
         pc,
         psr,
         svc,
-    };
-    (regs, left)
+    })
 }
 
-/// Registers that `step_cpu` takes: the PC and the flags of the line are in range.
+/// Registers that `step_cpu` takes: the PC and the flags are in range.
 fn is_valid(regs: &Regs) -> bool
     ensures { IsTrue result → IsValidRegs regs.now }
 {
     regs.pc % 4 == 0 && regs.pc < PC_END && regs.psr < PSR_END
 }
 
-/// Gives a register, or a part of R15, its new value.
-fn change(regs: &mut Regs, name: &str, value: &str) {
-    let number = hexadecimal(value);
+/// Gives a register of R0 to R12 a new value.
+fn change_low(regs: &mut Regs, number: &str, value: u32) -> Option<()> {
+    *regs.low.get_mut(decimal(number)? as usize)? = value;
+    Some(())
+}
+
+/// Gives a register, or a part of R15, its new value, which is written as NAME=VALUE.
+fn change(regs: &mut Regs, text: &str) -> Option<()> {
+    let (name, value) = text.split_once('=')?;
+    if name == "mode" {
+        regs.svc = is_supervisor(value)?;
+        return Some(());
+    }
+    let number = hexadecimal(value)?;
     match name {
         "u13" => regs.user13 = number,
         "u14" => regs.user14 = number,
         "s13" => regs.svc13 = number,
         "s14" => regs.svc14 = number,
         "pc" => regs.pc = number,
-        "psr" => regs.psr = (number % 0x100) as u8,
-        "mode" => regs.svc = value == "s",
-        _ => {
-            let n = name.parse::<usize>().unwrap_or(13);
-            if n < 13 {
-                regs.low[n] = number;
-            }
-        }
+        "psr" => regs.psr = u8::try_from(number).ok()?,
+        _ => change_low(regs, name, number)?,
     }
+    Some(())
 }
 
-/// The registers with changes that commas divide, each a name, `=` and a value.
-fn changed(regs: Regs, changes: &str) -> Regs {
-    let mut after = regs;
-    for part in changes.split(',') {
-        let (name, value) = cut(part, '=');
-        change(&mut after, name, value);
+/// The registers with changes that commas divide, or - for none.
+fn changed(before: &Regs, field: &str) -> Option<Regs> {
+    let mut after = *before;
+    if field == "-" {
+        return Some(after);
     }
-    after
+    for text in field.split(',') {
+        change(&mut after, text)?;
+    }
+    Some(after)
 }
 
-/// The answer that a line tells of.
-fn event_of(field: &str) -> CpuEvent {
-    let (name, value) = cut(field, ':');
-    let address = hexadecimal(value);
+/// The answer that a field tells.
+fn event_of(field: &str) -> Option<CpuEvent> {
+    if field == "ran" {
+        return Some(CpuEvent::Ran);
+    }
+    let (name, value) = field.split_once(':')?;
+    let number = hexadecimal(value)?;
     let kind = match name {
-        "ran" => return CpuEvent::Ran,
-        "swi" => return CpuEvent::Swi(address),
+        "swi" => return Some(CpuEvent::Swi(number)),
         "data" => Trap::Data,
         "fetch" => Trap::Fetch,
         "undefined" => Trap::Undefined,
-        _ => Trap::Unpredictable,
+        "unpredictable" => Trap::Unpredictable,
+        _ => return None,
     };
-    CpuEvent::Trap { kind, address }
+    Some(CpuEvent::Trap {
+        kind,
+        address: number,
+    })
 }
 
-/// A line: one step of the processor.
-#[derive(Clone, Copy)]
-pub struct Case<'a> {
-    /// Where the memory ends.
-    pub end: u32,
-    /// The word at the PC, if it is to be had.
-    pub word: Option<u32>,
-    pub before: Regs,
-    /// Words of memory before the step.
-    pub words: &'a str,
-    pub event: CpuEvent,
-    pub after: Regs,
-    /// Words of memory that the step writes.
-    pub written: &'a str,
-    ghost valid: { IsValidRegs before },
+/// Whether an answer is that the word at the PC is not to be had.
+fn is_fetch(event: &CpuEvent) -> bool {
+    matches!(
+        event,
+        CpuEvent::Trap {
+            kind: Trap::Fetch,
+            ..
+        }
+    )
 }
 
-/// The step that a line tells of, or `None` where its PC or its flags are out of range.
-pub fn parse(line: &str) -> Option<Case<'_>> {
-    let (_number, left) = Fields::of(line).next();
-    let (_class, left) = left.next();
-    let (mode, left) = left.next();
-    let (end, left) = left.number();
-    let (pc, left) = left.number();
-    let (psr, left) = left.number();
-    let (word, left) = left.number();
-    let (before, left) = registers(mode == "s", pc, (psr % 0x100) as u8, left);
-    let (words, left) = left.next();
-    let (event, left) = left.next();
-    let (changes, left) = left.next();
-    let (written, _left) = left.next();
-    if !is_valid(&before) {
+/// The step that a line tells, or `None` where the line is not as the format says.
+pub fn parse(line: &str) -> Option<Case> {
+    let mut fields = Fields::of(line);
+    let _number = decimal(fields.next()?)?;
+    let _class = fields.next()?;
+    let svc = is_supervisor(fields.next()?)?;
+    let end = fields.hexadecimal()?;
+    let pc = fields.hexadecimal()?;
+    let psr = u8::try_from(fields.hexadecimal()?).ok()?;
+    let word = fields.hexadecimal()?;
+    let before = registers(svc, pc, psr, &mut fields)?;
+    let words = words_of(fields.next()?)?;
+    let event = event_of(fields.next()?)?;
+    let after = changed(&before, fields.next()?)?;
+    let written = words_of(fields.next()?)?;
+    let _mark = fields.next()?;
+    if !is_valid(&before) || !fields.is_empty() {
         return None;
     }
     Some(Case {
         end,
-        word: if event.starts_with("fetch") {
-            None
-        } else {
-            Some(word)
-        },
+        code: if is_fetch(&event) { None } else { Some(word) },
         before,
         words,
-        event: event_of(event),
-        after: changed(before, changes),
+        event,
+        after,
         written,
     })
 }

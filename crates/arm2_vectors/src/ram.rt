@@ -3,8 +3,11 @@ ghost use Rattle.arm2_cpu.specs.Memory.{word_at, with_word};
 ghost use Rattle.arm2_cpu.specs.Window.{window};
 ghost use Rattle.bv_io.specs.declared.memory_map.TheConstants.{ARENA_START, ARENA_END};
 
+use crate::words::MOST_WORDS;
 use arm2_cpu::Memory;
+use arrayvec::ArrayVec;
 use bv_io::{ARENA_END, ARENA_START};
+use bv_ram::Ram;
 use std::alloc::{AllocError, Global};
 use std::marker::PhantomData;
 
@@ -12,7 +15,10 @@ use std::marker::PhantomData;
 pub const SMALL_END: u32 = 0x100_0000;
 
 /// The end of the larger memory.
-const LARGE_END: u32 = 0x400_0000;
+pub const LARGE_END: u32 = 0x400_0000;
+
+/// Room for the addresses that one step writes to, and one place more, which tells that they were too many.
+const NOTES: usize = MOST_WORDS + 1;
 
 /// Where a memory ends.
 pub trait RamEnd {
@@ -63,12 +69,14 @@ impl RamEnd for Large {
     ghost has_arena = { lit≤ tt };
 }
 
-/// A memory from address 0 on, of which user mode may use the arena.
+/// A memory from address 0 on, of which user mode may use the arena. It notes the words that the processor writes.
 #[derive(Drop)]
-pub struct Ram<E: RamEnd> {
-    bytes: Vec<u8>,
+pub struct StepRam<E: RamEnd> {
+    ram: Ram,
+    /// The addresses of the words that were written.
+    noted: ArrayVec<u32, NOTES>,
     of: PhantomData<E>,
-    ghost whole: { length bytes.items ≡ E.end },
+    ghost whole: { length ram ≡ E.end },
 }
 
 fn allows<E: RamEnd>(user: bool, at: u32) -> bool
@@ -81,66 +89,88 @@ fn allows<E: RamEnd>(user: bool, at: u32) -> bool
     }
 }
 
-impl<E: RamEnd> Ram<E> {
-    ghost use Rattle.std.specs.Prelude.{◌≡◌, ◌<◌, ◌+◌};
+impl<E: RamEnd> StepRam<E> {
+    ghost use Rattle.std.specs.Prelude.{◌≡◌, ◌<◌, ◌+◌, ◌%◌};
 
     /// A memory of zeros.
-    pub fn new(alloc: Global) -> Result<Ram<E>, AllocError> {
-        let mut bytes = Vec::new(alloc);
-        bytes.resize(E::end() as usize, 0)?;
-        Ok(Ram {
-            bytes,
-            of: PhantomData,
-        })
+    pub fn new(alloc: Global) -> Result<StepRam<E>, AllocError> {
+        match Ram::new(alloc, E::end()) {
+            Ok(ram) => Ok(StepRam {
+                ram,
+                noted: ArrayVec::new(),
+                of: PhantomData,
+            }),
+            Err(_) => Err(AllocError),
+        }
     }
 
     #[tactic(auto, unfolding(arm2_cpu::specs::Memory::word_at, arm2_cpu::specs::Memory::byte_at))]
     fn get(&self, at: u32) -> u32
-        requires { at + 3 < E.end }
-        ensures { result ≡ word_at (window 0 E.end ARENA_START ARENA_END) self.now.bytes.items at }
+        requires aligned { at % 4 ≡ 0 }
+        requires inside { at + 3 < E.end }
+        ensures { result ≡ word_at (window 0 E.end ARENA_START ARENA_END) self.now.ram at }
     {
-        let i = at as usize;
-        u32::from(self.bytes[i])
-            + (u32::from(self.bytes[i + 1]) << 8)
-            + (u32::from(self.bytes[i + 2]) << 16)
-            + (u32::from(self.bytes[i + 3]) << 24)
+        u32::from(self.ram.byte(at))
+            + (u32::from(self.ram.byte(at + 1)) << 8)
+            + (u32::from(self.ram.byte(at + 2)) << 16)
+            + (u32::from(self.ram.byte(at + 3)) << 24)
     }
 
     #[tactic(auto, using(arm2_cpu::proofs::MemoryLaws::with_word_by_sets))]
     fn put(&mut self, at: u32, value: u32)
-        requires { at + 3 < E.end }
-        ensures { self.new.bytes.items ≡ with_word (window 0 E.end ARENA_START ARENA_END) self.old.bytes.items at value }
+        requires aligned { at % 4 ≡ 0 }
+        requires inside { at + 3 < E.end }
+        ensures { self.new.ram ≡ with_word (window 0 E.end ARENA_START ARENA_END) self.old.ram at value }
     {
-        let i = at as usize;
-        self.bytes[i] = (value % 0x100) as u8;
-        self.bytes[i + 1] = ((value >> 8) % 0x100) as u8;
-        self.bytes[i + 2] = ((value >> 16) % 0x100) as u8;
-        self.bytes[i + 3] = ((value >> 24) % 0x100) as u8;
+        self.ram.set_byte(at, (value % 0x100) as u8);
+        self.ram.set_byte(at + 1, ((value >> 8) % 0x100) as u8);
+        self.ram.set_byte(at + 2, ((value >> 16) % 0x100) as u8);
+        self.ram.set_byte(at + 3, ((value >> 24) % 0x100) as u8);
     }
 
-    /// Whether all bytes are 0.
-    pub fn is_clear(&self) -> bool {
-        self.bytes.as_slice().iter().all(|byte| *byte == 0)
-    }
-
-    /// The word at an address, or 0 where the memory has none.
-    pub fn word_or_zero(&self, at: u32) -> u32 {
-        if u64::from(at) + 3 < u64::from(E::end()) {
-            self.get(at)
-        } else {
-            0
+    /// Notes that the word in which an address lies was written.
+    fn note(&mut self, at: u32)
+        ensures { self.new.ram ≡ self.old.ram }
+    {
+        if !self.noted.is_full() {
+            self.noted.push(at / 4 * 4);
         }
     }
 
-    /// Stores a word, where the memory has one at that address.
-    pub fn put_within(&mut self, at: u32, value: u32) {
-        if u64::from(at) + 3 < u64::from(E::end()) {
+    /// The word at an address, or `None` where there is none.
+    pub fn load(&self, at: u32) -> Option<u32> {
+        if at % 4 == 0 && at < E::end() {
+            Some(self.get(at))
+        } else {
+            None
+        }
+    }
+
+    /// Stores a word, and doesn't note it. `false` where there is no word at that address.
+    pub fn store(&mut self, at: u32, value: u32) -> bool {
+        let is_word = at % 4 == 0 && at < E::end();
+        if is_word {
             self.put(at, value);
         }
+        is_word
+    }
+
+    /// The addresses of the words that the processor wrote since the last `forget`, or `None` where they were too many.
+    pub fn written(&self) -> Option<&[u32]> {
+        if self.noted.is_full() {
+            None
+        } else {
+            Some(self.noted.as_slice())
+        }
+    }
+
+    /// Forgets which words were written.
+    pub fn forget(&mut self) {
+        self.noted.clear();
     }
 }
 
-impl<E: RamEnd> Memory for Ram<E> {
+impl<E: RamEnd> Memory for StepRam<E> {
     ghost use Rattle.std.specs.Prelude.{refl};
     ghost use Rattle.std.proofs.Common.{lit≤};
     ghost use Rattle.bv_io.specs.declared.memory_map.TheConstants.{ARENA_START, ARENA_END};
@@ -149,7 +179,7 @@ impl<E: RamEnd> Memory for Ram<E> {
 
     ghost space = { window 0 E.end ARENA_START ARENA_END };
 
-    ghost bytes = { λ m. m.bytes.items };
+    ghost bytes = { λ m. m.ram };
 
     #[tactic(auto, unfolding(arm2_cpu::specs::Memory::read_word))]
     fn word(&self, user: bool, at: u32) -> Option<u32> {
@@ -163,7 +193,7 @@ impl<E: RamEnd> Memory for Ram<E> {
     #[tactic(auto, unfolding(arm2_cpu::specs::Memory::read_byte, arm2_cpu::specs::Memory::byte_at))]
     fn byte(&self, user: bool, at: u32) -> Option<u8> {
         if allows::<E>(user, at) {
-            Some(self.bytes[at as usize])
+            Some(self.ram.byte(at))
         } else {
             None
         }
@@ -174,6 +204,7 @@ impl<E: RamEnd> Memory for Ram<E> {
         let allowed = allows::<E>(user, at);
         if allowed {
             self.put(at, v);
+            self.note(at);
         }
         allowed
     }
@@ -182,7 +213,8 @@ impl<E: RamEnd> Memory for Ram<E> {
     fn set_byte(&mut self, user: bool, at: u32, v: u8) -> bool {
         let allowed = allows::<E>(user, at);
         if allowed {
-            self.bytes[at as usize] = v;
+            self.ram.set_byte(at, v);
+            self.note(at);
         }
         allowed
     }
