@@ -1,8 +1,10 @@
 -- The laws at work: a word that is written out, and one with variable fields.
 use Rattle.std.proofs.Common.{◌≡◌, ℕ, ◌+◌, ◌*◌, ◌^◌, ◌<◌, true, false, negsuc, refl, arith}
 use Rattle.arm_isa.specs.declared.instruction.Instr.TheVariants.{Data, Single, Branch}
+use Rattle.arm_isa.specs.Fields.{bits}
 use Rattle.arm_isa.specs.Table.{class_of}
 use Rattle.arm_isa.specs.Words.{means, word_of, IsValid}
+use Rattle.arm_isa.proofs.FieldLemmas.{nibble_at}
 use Rattle.arm_isa.proofs.RoundTrip.{means_at}
 use Rattle.arm_isa.proofs.ValidLaws.{valid-data_immediate}
 use Rattle.arm_isa.proofs.ValidTest.{valid_by_test}
@@ -22,6 +24,13 @@ valid-mov_pc_r14 = valid_by_test _ refl
 
 means-mov_pc_r14 : means (word_of (Data 14 false 13 false 0 15 14)) ≡ Data 14 false 13 false 0 15 14
 means-mov_pc_r14 = means_by_test _ refl
+
+-- one field of its word, and of any word with that field
+rd-mov_pc_r14 : bits 0xe1a0f00e 15 12 ≡ 15
+rd-mov_pc_r14 = refl
+
+rd-any : (above rd below : ℕ) → rd < 16 → below < 2 ^ 12 → bits (above * 2 ^ 16 + rd * 2 ^ 12 + below) 15 12 ≡ rd
+rd-any above rd below register small = nibble_at above rd below 12 register small
 
 -- a branch with link to itself
 bl_back : means 0xebfffffe ≡ Branch 14 true (negsuc 1)

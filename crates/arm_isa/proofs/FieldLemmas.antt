@@ -1,9 +1,9 @@
 -- Fields of a word, and sums of fields.
-use Rattle.std.proofs.Common.{◌≡◌, ℕ, ◌+◌, ◌-◌, ◌*◌, ◌/◌, ◌%◌, ◌^◌, ◌<◌, ◌≤◌, Bool, true, false, ◌==◌, refl, sym, ap, ◌∙◌, arith, bit_and, bit_or, eq-eqb, inl, inr, ℤ, pos, negsuc, neg_ℤ, ◌≤ℤ◌, ◌<ℤ◌, nat_lt, ltb-true, ltb-false, lt-ltb, le-ltb}
+use Rattle.std.proofs.Common.{◌≡◌, ℕ, ◌+◌, ◌-◌, ◌*◌, ◌/◌, ◌%◌, ◌^◌, ◌<◌, ◌≤◌, Bool, true, false, ◌==◌, refl, sym, ap, subst, ◌∙◌, arith, bit_and, bit_or, eq-eqb, inl, inr, ℤ, pos, negsuc, neg_ℤ, ◌≤ℤ◌, ◌<ℤ◌, nat_lt, ltb-true, ltb-false, lt-ltb, le-ltb}
 use Rattle.std.proofs.lemmas.Bool.Decides.{eqb_tells}
 use Rattle.std.specs.Int.{from_bool}
 use Rattle.std.proofs.lemmas.Int.{ints}
-use Rattle.std.proofs.lemmas.Nat.{and_mask, or_shifted, div-add-mod'}
+use Rattle.std.proofs.lemmas.Nat.{and_mask, or_shifted, div-add-mod', div-mul-add, mod-mul-add, pow-add}
 use Rattle.std.proofs.lemmas.Nat.Bits.{ones_shr}
 use Rattle.arm_isa.specs.Fields.{bits, signed_offset, offset_field}
 use Rattle.arm_isa.specs.Words.{FitsOffset, transfer_flags}
@@ -13,6 +13,26 @@ pub bits_by_mask : (w high low k : ℕ) → low ≤ high → high < 32 → k ≡
 bits_by_mask w high low k order top is =
     let width : 32 - k ≡ high + 1 - low = omega arith in
     ap (bit_and (w / 2 ^ low)) (ones_shr 32 k (omega arith) ∙ ap (λ n. 2 ^ n - 1) width) ∙ and_mask (w / 2 ^ low) (high + 1 - low)
+
+-- the value of a field of a word that is written as a sum: what stands above the field, the field, and what stands below
+pub field_at : (above field below high low : ℕ) → low ≤ high → field < 2 ^ (high + 1 - low) → below < 2 ^ low → bits (above * 2 ^ (high + 1) + field * 2 ^ low + below) high low ≡ field
+field_at above field below high low order fits small =
+    let width : ℕ = high + 1 - low in
+    let all : width + low ≡ high + 1 = omega (arith, order) in
+    let power : 2 ^ (high + 1) ≡ 2 ^ width * 2 ^ low = ap (λ n. 2 ^ n) (sym all) ∙ pow-add 2 width low in
+    let sum : above * 2 ^ (high + 1) + field * 2 ^ low + below ≡ (above * 2 ^ width + field) * 2 ^ low + below = ap (λ n. above * n + field * 2 ^ low + below) power ∙ joined (2 ^ width) (2 ^ low) in
+    ap (λ w. w / 2 ^ low % 2 ^ width) sum ∙ ap (λ n. n % 2 ^ width) (div-mul-add (above * 2 ^ width + field) (2 ^ low) below small) ∙ mod-mul-add above (2 ^ width) field fits
+  where
+    joined : (p q : ℕ) → above * (p * q) + field * q + below ≡ (above * p + field) * q + below
+    joined p q = omega arith
+
+-- the same for four bits from bit `low` up
+pub nibble_at : (above field below low : ℕ) → field < 16 → below < 2 ^ low → bits (above * 2 ^ (low + 4) + field * 2 ^ low + below) (low + 3) low ≡ field
+nibble_at above field below low fits small =
+    let width : 4 ≡ low + 3 + 1 - low = omega arith in
+    let next : low + 4 ≡ low + 3 + 1 = omega arith in
+    ap (λ n. bits (above * 2 ^ n + field * 2 ^ low + below) (low + 3) low) next
+    ∙ field_at above field below (low + 3) low (omega arith) (subst (λ n. field < 2 ^ n) width fits) small
 
 -- a number in front of a smaller one
 pub or_above : (a b k : ℕ) → a % 2 ^ k ≡ 0 → b < 2 ^ k → bit_or a b ≡ a + b

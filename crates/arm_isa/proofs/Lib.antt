@@ -7,5 +7,6 @@ pub mod ValidLaws
 pub mod ValidTest
 mod Sums
 pub mod ImmediateLaws
+pub mod ShiftFields
 pub mod InstructionWords
 mod Examples

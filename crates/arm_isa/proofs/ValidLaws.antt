@@ -1,5 +1,5 @@
 -- Which instructions are valid, class by class.
-use Rattle.std.proofs.Common.{◌≡◌, ℕ, ◌+◌, ◌*◌, ◌^◌, ◌<◌, Bool, true, false, ◌==◌, ◌&&◌, ℤ, refl, sym, ap, ◌∙◌, arith, eq-eqb, eqb-true, true≢false}
+use Rattle.std.proofs.Common.{◌≡◌, ℕ, ◌+◌, ◌*◌, ◌^◌, ◌<◌, Bool, true, false, ◌==◌, ◌&&◌, ℤ, refl, sym, ap, subst, ◌∙◌, arith, eq-eqb, eqb-true, true≢false}
 use Rattle.std.proofs.lemmas.Bool.{and_parts}
 use Rattle.arm_isa.specs.declared.instruction.Instr.TheVariants.{Data, Mul, Single, Block, Branch, Swi}
 use Rattle.arm_isa.specs.declared.instruction.TheConstants.{NIBBLES, OPERANDS, SWI_NUMBERS}
@@ -55,6 +55,12 @@ valid-data_shift cond op rn rd amount kind rm s c o n d a k m =
     and_false true = refl
     and_false false = refl
 
+-- the same with LSL, whose kind is 0
+pub valid-data_lsl : (cond op rn rd amount rm : ℕ) (s : Bool) → cond < NIBBLES → op < NIBBLES → rn < NIBBLES → rd < NIBBLES → amount < 32 → rm < NIBBLES → IsValid (Data cond false op s rn rd (amount * 2 ^ 7 + rm))
+valid-data_lsl cond op rn rd amount rm s c o n d a m =
+    let same : amount * 2 ^ 7 + 0 * 2 ^ 5 + rm ≡ amount * 2 ^ 7 + rm = omega arith in
+    subst (λ op2. IsValid (Data cond false op s rn rd op2)) same (valid-data_shift cond op rn rd amount 0 rm s c o n d a (omega arith) m)
+
 -- data processing with a register that is shifted by a register
 pub valid-data_shift_by_register : (cond op rn rd rs kind rm : ℕ) (s : Bool) → cond < NIBBLES → op < NIBBLES → rn < NIBBLES → rd < NIBBLES → rs < NIBBLES → kind < 4 → rm < NIBBLES → IsValid (Data cond false op s rn rd (rs * 2 ^ 8 + kind * 2 ^ 5 + 1 * 2 ^ 4 + rm))
 valid-data_shift_by_register cond op rn rd rs kind rm s c o n d r k m =
@@ -63,6 +69,14 @@ valid-data_shift_by_register cond op rn rd rs kind rm s c o n d r k m =
     let plain : has_bits_7_and_4 op2 ≡ false = rw seven refl in
     valid-data_register cond op rn rd op2 s c o n d (omega (arith, r, k, m)) plain
 
+-- data processing with a register as it is
+pub valid-data_plain : (cond op rn rd rm : ℕ) (s : Bool) → cond < NIBBLES → op < NIBBLES → rn < NIBBLES → rd < NIBBLES → rm < NIBBLES → IsValid (Data cond false op s rn rd rm)
+valid-data_plain cond op rn rd rm s c o n d m =
+    let seven : bits rm 7 7 ≡ 0 = omega (arith, m) in
+    let plain : has_bits_7_and_4 rm ≡ false = rw seven refl in
+    valid-data_register cond op rn rd rm s c o n d (omega (arith, m)) plain
+
+-- MUL and MLA
 pub valid-multiply : (cond rd rn rs rm : ℕ) (acc s : Bool) → cond < NIBBLES → rd < NIBBLES → rn < NIBBLES → rs < NIBBLES → rm < NIBBLES → IsValid (Mul cond acc s rd rn rs rm)
 unfolding word_of
 valid-multiply cond rd rn rs rm acc s c d n t m =
@@ -106,6 +120,20 @@ valid-single_shift cond rn rd amount kind rm pre up byte wb load c n d a k m =
     let plain : bit offset 4 ≡ false = rw four refl in
     valid-single_register cond rn rd offset pre up byte wb load c n d (omega (arith, a, k, m)) plain
 
+-- the same with LSL, whose kind is 0
+pub valid-single_lsl : (cond rn rd amount rm : ℕ) (pre up byte wb load : Bool) → cond < NIBBLES → rn < NIBBLES → rd < NIBBLES → amount < 32 → rm < NIBBLES → IsValid (Single cond true pre up byte wb load rn rd (amount * 2 ^ 7 + rm))
+valid-single_lsl cond rn rd amount rm pre up byte wb load c n d a m =
+    let same : amount * 2 ^ 7 + 0 * 2 ^ 5 + rm ≡ amount * 2 ^ 7 + rm = omega arith in
+    subst (λ offset. IsValid (Single cond true pre up byte wb load rn rd offset)) same (valid-single_shift cond rn rd amount 0 rm pre up byte wb load c n d a (omega arith) m)
+
+-- a transfer with a register as it is for its offset
+pub valid-single_plain : (cond rn rd rm : ℕ) (pre up byte wb load : Bool) → cond < NIBBLES → rn < NIBBLES → rd < NIBBLES → rm < NIBBLES → IsValid (Single cond true pre up byte wb load rn rd rm)
+valid-single_plain cond rn rd rm pre up byte wb load c n d m =
+    let four : bits rm 4 4 ≡ 0 = omega (arith, m) in
+    let plain : bit rm 4 ≡ false = rw four refl in
+    valid-single_register cond rn rd rm pre up byte wb load c n d (omega (arith, m)) plain
+
+-- a block transfer, whose list of registers has sixteen bits
 pub valid-block : (cond rn list : ℕ) (pre up psr wb load : Bool) → cond < NIBBLES → rn < NIBBLES → list < 2 ^ 16 → IsValid (Block cond pre up psr wb load rn list)
 unfolding word_of
 valid-block cond rn list pre up psr wb load c n l =
@@ -116,6 +144,7 @@ valid-block cond rn list pre up psr wb load c n l =
     let b6 = from_bool-lt load in
     record { fits = (c, n, l); own_class = class-group_4 (word_of (Block cond pre up psr wb load rn list)) (omega (arith, c, n, l, b2, b3, b4, b5, b6)) }
 
+-- a branch, whose distance has 24 bits with its sign
 pub valid-branch : (cond : ℕ) (link : Bool) (words : ℤ) → cond < NIBBLES → FitsOffset words → IsValid (Branch cond link words)
 unfolding word_of
 valid-branch cond link words c w =
@@ -123,6 +152,7 @@ valid-branch cond link words c w =
     let low = offset_field-lt words w in
     record { fits = (c, w); own_class = class-group_5 (word_of (Branch cond link words)) (omega (arith, c, b1, low)) }
 
+-- a software interrupt
 pub valid-swi : (cond number : ℕ) → cond < NIBBLES → number < SWI_NUMBERS → IsValid (Swi cond number)
 unfolding word_of
 valid-swi cond number c n =
@@ -131,4 +161,4 @@ valid-swi cond number c n =
     record { fits = (c, n); own_class = class-group_7 w (omega (arith, c, n)) ∙ rw top refl }
 
 -- those laws whose premises are bounds of the fields, for a crate that encodes: `using(arm_isa::proofs::ValidLaws::valid_instructions)`
-pub ruleset valid_instructions = (valid-data_immediate, valid-data_shift, valid-data_shift_by_register, valid-multiply, valid-single_immediate, valid-single_shift, valid-block, valid-branch, fits_offset-between, valid-swi)
+pub ruleset valid_instructions = (valid-data_immediate, valid-data_plain, valid-data_lsl, valid-data_shift, valid-data_shift_by_register, valid-multiply, valid-single_immediate, valid-single_plain, valid-single_lsl, valid-single_shift, valid-block, valid-branch, fits_offset-between, valid-swi)

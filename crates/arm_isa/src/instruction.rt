@@ -41,8 +41,10 @@ pub enum Instr {
         rs: u8,
         rm: u8,
     },
-    /// LDR where `load`, else STR: `reg` has a shifted register in place of an offset of 0 to 4,095 bytes. `pre` adds
-    /// the offset before the access, `up` adds and doesn't subtract, `byte` moves a byte, `wb` writes back.
+    /// LDR where `load`, else STR: `reg` has a shifted register in place of an offset of 0 to 4,095 bytes. `up` adds the
+    /// offset to `rn`, and else it is subtracted, before the access where `pre` and else behind it. `byte` moves a byte.
+    /// With `pre`, `wb` writes the moved address back to `rn`. Without `pre` that is always done, and `wb` makes the access
+    /// as in user mode (LDRT, STRT).
     Single {
         cond: u8,
         reg: bool,
@@ -55,7 +57,10 @@ pub enum Instr {
         rd: u8,
         offset: u16,
     },
-    /// LDM where `load`, else STM: bit n of `list` is register n. `psr` is the form written with ^.
+    /// LDM where `load`, else STM: bit n of `list` is register n, and register `rn` is the base. The block lies above the
+    /// base where `up` and else below it, and leaves out the base's own word where `pre`: IB with both, IA with `up`
+    /// alone, DB with `pre` alone, and DA. `wb` writes the base back, moved by 4 bytes for each register. `psr` is the
+    /// form written with ^: it takes the flags with R15 that is loaded, and else moves the user's R13 and R14.
     Block {
         cond: u8,
         pre: bool,
@@ -66,7 +71,8 @@ pub enum Instr {
         rn: u8,
         list: u16,
     },
-    /// B, or BL where `link`: `words` counts words from the address of the instruction plus 8, from -2^23 up to 2^23.
+    /// B, or BL where `link`. `words` is the distance in words from the address of the instruction plus 8: a signed number
+    /// of 24 bits, from -`BRANCH_WORDS` to `BRANCH_WORDS` - 1, which is 32 MiB each way.
     Branch {
         cond: u8,
         link: bool,
