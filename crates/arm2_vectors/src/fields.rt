@@ -12,19 +12,15 @@ impl<'a> Fields<'a> {
         Fields { rest: Some(line) }
     }
 
-    /// The next field, or `None` behind the last.
+    /// The next field, or `None` behind the last, and where it is empty.
     pub fn next(&mut self) -> Option<&'a str> {
         let rest = self.rest?;
-        match rest.split_once(' ') {
-            Some((field, others)) => {
-                self.rest = Some(others);
-                Some(field)
-            }
-            None => {
-                self.rest = None;
-                Some(rest)
-            }
-        }
+        let (field, others) = match rest.split_once(' ') {
+            Some((field, others)) => (field, Some(others)),
+            None => (rest, None),
+        };
+        self.rest = others;
+        if field.is_empty() { None } else { Some(field) }
     }
 
     /// The next field as a hexadecimal number, or `None` where it is no such number.
