@@ -1,5 +1,5 @@
 -- The fields that give a number.
-use Rattle.std.proofs.Common.{◌≡◌, ℕ, ◌+◌, ◌*◌, ◌%◌, ◌^◌, ◌<◌, sym, ap, subst, ◌∙◌, arith, bit_or}
+use Rattle.std.proofs.Common.{◌≡◌, ℕ, ◌+◌, ◌*◌, ◌/◌, ◌%◌, ◌^◌, ◌<◌, sym, ap, subst, ◌∙◌, arith, bit_or}
 use Rattle.std.specs.Int.{w32, rotate_left}
 use Rattle.arm_isa.specs.Fields.{bits}
 use Rattle.arm_isa.specs.Immediates.{rotated, turns_of, immediate_value, Gives}
@@ -45,8 +45,8 @@ gives_byte_2 byte small = gives_by_parts 8 byte (byte * 2 ^ 16) (omega arith) sm
 pub gives_byte_3 : (byte : ℕ) → byte < 256 → Gives (4 * 2 ^ 8 + byte) (byte * 2 ^ 24)
 gives_byte_3 byte small = gives_by_parts 4 byte (byte * 2 ^ 24) (omega arith) small (omega (arith, small))
 
--- a word is the sum of its four bytes, each at its place
-pub sum_of_bytes : (n : ℕ) → n < 2 ^ 32 → bits n 7 0 + bits n 15 8 * 2 ^ 8 + bits n 23 16 * 2 ^ 16 + bits n 31 24 * 2 ^ 24 ≡ n
+-- a word is the sum of the four bytes that it is written as, each at its place
+pub sum_of_bytes : (n : ℕ) → n < 2 ^ 32 → n % 2 ^ 8 + n / 2 ^ 8 % 2 ^ 8 * 2 ^ 8 + n / 2 ^ 16 % 2 ^ 8 * 2 ^ 16 + n / 2 ^ 24 % 2 ^ 8 * 2 ^ 24 ≡ n
 sum_of_bytes n small = omega (arith, small)
 
 -- the field that the code makes gives the number
