@@ -6,6 +6,9 @@ use crate::words::{Words, words_of};
 use arm2_cpu::{CpuEvent, PC_END, PSR_END, Regs};
 use bv_io::Trap;
 
+/// How many registers both modes share, R0 to R12.
+const LOW_REGISTERS: usize = 13;
+
 /// One step of the processor.
 #[derive(Drop)]
 pub struct Case {
@@ -13,10 +16,13 @@ pub struct Case {
     pub end: u32,
     /// The word at the PC, if it is to be had.
     pub code: Option<u32>,
+    /// The registers before the step.
     pub before: Regs,
     /// Words of memory before the step.
     pub words: Words,
+    /// What the step comes to.
     pub event: CpuEvent,
+    /// The registers behind the step.
     pub after: Regs,
     /// Words of memory that the step writes.
     pub written: Words,
@@ -33,9 +39,9 @@ fn is_supervisor(name: &str) -> Option<bool> {
 }
 
 /// R0 to R12.
-fn low_registers(fields: &mut Fields<'_>) -> Option<[u32; 13]> {
-    let mut low = [0; 13];
-    for n in 0..13 {
+fn low_registers(fields: &mut Fields<'_>) -> Option<[u32; LOW_REGISTERS]> {
+    let mut low = [0; LOW_REGISTERS];
+    for n in 0..LOW_REGISTERS {
         low[n] = fields.hexadecimal()?;
     }
     Some(low)

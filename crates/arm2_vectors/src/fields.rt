@@ -8,6 +8,7 @@ pub struct Fields<'a> {
 }
 
 impl<'a> Fields<'a> {
+    /// The fields of a line.
     pub fn of(line: &'a str) -> Fields<'a> {
         Fields { rest: Some(line) }
     }
@@ -34,7 +35,7 @@ impl<'a> Fields<'a> {
     }
 }
 
-/// A number without a sign, below 2^32, in base 10 or 16.
+/// A number without a sign, below 2^32, in a base from 2 to 36.
 fn number(text: &str, base: u32) -> Option<u32>
     requires { (2 ≤ base) × (base ≤ 36) }
 {

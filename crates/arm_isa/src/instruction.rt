@@ -21,7 +21,8 @@ pub const SWI_NUMBERS: u32 = 0x100_0000;
 #[derive(Clone, Copy, Debug, PartialEq, Eq)]
 pub enum Instr {
     /// Data processing: `op` is 0 (AND) to 15 (MVN), `s` sets the flags. `op2` is an immediate where `imm`, as
-    /// `immediate` gives it, and else a register with its shift.
+    /// `immediate` gives it, and else the register of bits 3 to 0 with its shift: the kind of bits 6 and 5 (LSL, LSR,
+    /// ASR, ROR), by the number of bits 11 to 7, or where bit 4 is set by the register of bits 11 to 8.
     Data {
         cond: u8,
         imm: bool,
@@ -41,10 +42,10 @@ pub enum Instr {
         rs: u8,
         rm: u8,
     },
-    /// LDR where `load`, else STR: `reg` has a shifted register in place of an offset of 0 to 4,095 bytes. `up` adds the
-    /// offset to `rn`, and else it is subtracted, before the access where `pre` and else behind it. `byte` moves a byte.
-    /// With `pre`, `wb` writes the moved address back to `rn`. Without `pre` that is always done, and `wb` makes the access
-    /// as in user mode (LDRT, STRT).
+    /// LDR where `load`, else STR: `reg` has a register, shifted by a number as in `op2` of data processing, in place of an
+    /// `offset` of 0 to 4,095 bytes. `up` adds the offset to `rn`, and else it is subtracted, before the access where `pre`
+    /// and else behind it. `byte` moves a byte. With `pre`, `wb` writes the moved address back to `rn`. Without `pre` that
+    /// is always done, and `wb` makes the access as in user mode (LDRT, STRT).
     Single {
         cond: u8,
         reg: bool,
