@@ -1,5 +1,5 @@
 -- Which instructions are valid, class by class.
-use Rattle.std.proofs.Common.{◌≡◌, ℕ, ◌+◌, ◌*◌, ◌^◌, ◌<◌, Bool, true, false, ◌==◌, ◌&&◌, ℤ, refl, sym, ap, subst, ◌∙◌, arith, eq-eqb, eqb-true, true≢false}
+use Rattle.std.proofs.Common.{◌≡◌, ℕ, ◌+◌, ◌*◌, ◌%◌, ◌^◌, ◌<◌, Bool, true, false, ◌==◌, ◌&&◌, ℤ, refl, sym, ap, ◌∙◌, arith, eq-eqb, eqb-true, true≢false}
 use Rattle.std.proofs.lemmas.Bool.{and_parts}
 use Rattle.arm_isa.specs.declared.instruction.Instr.TheVariants.{Data, Mul, Single, Block, Branch, Swi}
 use Rattle.arm_isa.specs.declared.instruction.TheConstants.{NIBBLES, OPERANDS, SWI_NUMBERS}
@@ -43,31 +43,35 @@ valid-data_register cond op rn rd op2 s c o n d p plain =
       own_class = class-group_0 w (no_multiply w same) (omega (arith, c, o, n, d, p, flag)) ∙ rw same refl;
     }
 
--- data processing with a register that is shifted by a number of bits
-pub valid-data_shift : (cond op rn rd amount kind rm : ℕ) (s : Bool) → cond < NIBBLES → op < NIBBLES → rn < NIBBLES → rd < NIBBLES → amount < 32 → kind < 4 → rm < NIBBLES → IsValid (Data cond false op s rn rd (amount * 2 ^ 7 + kind * 2 ^ 5 + rm))
-valid-data_shift cond op rn rd amount kind rm s c o n d a k m =
-    let op2 : ℕ = amount * 2 ^ 7 + kind * 2 ^ 5 + rm in
-    let four : bits op2 4 4 ≡ 0 = omega (arith, m) in
+-- data processing with a register, behind the bits of a shift by a number: bit 4 is clear
+pub valid-data_by_number : (cond op rn rd shift rm : ℕ) (s : Bool) → cond < NIBBLES → op < NIBBLES → rn < NIBBLES → rd < NIBBLES → shift % 2 ^ 5 ≡ 0 → shift < OPERANDS → rm < NIBBLES → IsValid (Data cond false op s rn rd (shift + rm))
+valid-data_by_number cond op rn rd shift rm s c o n d k h m =
+    let op2 : ℕ = shift + rm in
+    let four : bits op2 4 4 ≡ 0 = omega (arith, k, m) in
     let plain : has_bits_7_and_4 op2 ≡ false = rw four (and_false (bit op2 7)) in
-    valid-data_register cond op rn rd op2 s c o n d (omega (arith, a, k, m)) plain
+    valid-data_register cond op rn rd op2 s c o n d (omega (arith, k, h, m)) plain
   where
     and_false : (t : Bool) → (t && false) ≡ false
     and_false true = refl
     and_false false = refl
 
--- the same with LSL, whose kind is 0
-pub valid-data_lsl : (cond op rn rd amount rm : ℕ) (s : Bool) → cond < NIBBLES → op < NIBBLES → rn < NIBBLES → rd < NIBBLES → amount < 32 → rm < NIBBLES → IsValid (Data cond false op s rn rd (amount * 2 ^ 7 + rm))
-valid-data_lsl cond op rn rd amount rm s c o n d a m =
-    let same : amount * 2 ^ 7 + 0 * 2 ^ 5 + rm ≡ amount * 2 ^ 7 + rm = omega arith in
-    subst (λ op2. IsValid (Data cond false op s rn rd op2)) same (valid-data_shift cond op rn rd amount 0 rm s c o n d a (omega arith) m)
+-- data processing with a register, behind the bits of a shift by a register: bit 7 is clear
+pub valid-data_by_register : (cond op rn rd shift rm : ℕ) (s : Bool) → cond < NIBBLES → op < NIBBLES → rn < NIBBLES → rd < NIBBLES → shift % 2 ^ 4 ≡ 0 → shift % 2 ^ 8 < 2 ^ 7 → shift < OPERANDS → rm < NIBBLES → IsValid (Data cond false op s rn rd (shift + rm))
+valid-data_by_register cond op rn rd shift rm s c o n d k b h m =
+    let op2 : ℕ = shift + rm in
+    let seven : bits op2 7 7 ≡ 0 = omega (arith, k, b, m) in
+    let plain : has_bits_7_and_4 op2 ≡ false = rw seven refl in
+    valid-data_register cond op rn rd op2 s c o n d (omega (arith, k, h, m)) plain
+
+-- data processing with a register that is shifted by a number of bits
+pub valid-data_shift : (cond op rn rd amount kind rm : ℕ) (s : Bool) → cond < NIBBLES → op < NIBBLES → rn < NIBBLES → rd < NIBBLES → amount < 32 → kind < 4 → rm < NIBBLES → IsValid (Data cond false op s rn rd (amount * 2 ^ 7 + kind * 2 ^ 5 + rm))
+valid-data_shift cond op rn rd amount kind rm s c o n d a k m =
+    valid-data_by_number cond op rn rd (amount * 2 ^ 7 + kind * 2 ^ 5) rm s c o n d (omega arith) (omega (arith, a, k)) m
 
 -- data processing with a register that is shifted by a register
 pub valid-data_shift_by_register : (cond op rn rd rs kind rm : ℕ) (s : Bool) → cond < NIBBLES → op < NIBBLES → rn < NIBBLES → rd < NIBBLES → rs < NIBBLES → kind < 4 → rm < NIBBLES → IsValid (Data cond false op s rn rd (rs * 2 ^ 8 + kind * 2 ^ 5 + 1 * 2 ^ 4 + rm))
 valid-data_shift_by_register cond op rn rd rs kind rm s c o n d r k m =
-    let op2 : ℕ = rs * 2 ^ 8 + kind * 2 ^ 5 + 1 * 2 ^ 4 + rm in
-    let seven : bits op2 7 7 ≡ 0 = omega (arith, k, m) in
-    let plain : has_bits_7_and_4 op2 ≡ false = rw seven refl in
-    valid-data_register cond op rn rd op2 s c o n d (omega (arith, r, k, m)) plain
+    valid-data_by_register cond op rn rd (rs * 2 ^ 8 + kind * 2 ^ 5 + 1 * 2 ^ 4) rm s c o n d (omega arith) (omega (arith, k)) (omega (arith, r, k)) m
 
 -- data processing with a register as it is
 pub valid-data_plain : (cond op rn rd rm : ℕ) (s : Bool) → cond < NIBBLES → op < NIBBLES → rn < NIBBLES → rd < NIBBLES → rm < NIBBLES → IsValid (Data cond false op s rn rd rm)
@@ -112,19 +116,18 @@ valid-single_register cond rn rd offset pre up byte wb load c n d o plain =
     let same : bit w 4 ≡ false = ap (λ k. k == 1) four ∙ plain in
     record { fits = (c, n, d, o); own_class = class-group_3 w (omega (arith, c, n, d, o, b2, b3, b4, b5, b6)) ∙ rw same refl }
 
+-- a transfer with a register for its offset, behind the bits of a shift by a number
+pub valid-single_by_number : (cond rn rd shift rm : ℕ) (pre up byte wb load : Bool) → cond < NIBBLES → rn < NIBBLES → rd < NIBBLES → shift % 2 ^ 5 ≡ 0 → shift < OPERANDS → rm < NIBBLES → IsValid (Single cond true pre up byte wb load rn rd (shift + rm))
+valid-single_by_number cond rn rd shift rm pre up byte wb load c n d k h m =
+    let offset : ℕ = shift + rm in
+    let four : bits offset 4 4 ≡ 0 = omega (arith, k, m) in
+    let plain : bit offset 4 ≡ false = rw four refl in
+    valid-single_register cond rn rd offset pre up byte wb load c n d (omega (arith, k, h, m)) plain
+
 -- a transfer with a register for its offset that is shifted by a number of bits
 pub valid-single_shift : (cond rn rd amount kind rm : ℕ) (pre up byte wb load : Bool) → cond < NIBBLES → rn < NIBBLES → rd < NIBBLES → amount < 32 → kind < 4 → rm < NIBBLES → IsValid (Single cond true pre up byte wb load rn rd (amount * 2 ^ 7 + kind * 2 ^ 5 + rm))
 valid-single_shift cond rn rd amount kind rm pre up byte wb load c n d a k m =
-    let offset : ℕ = amount * 2 ^ 7 + kind * 2 ^ 5 + rm in
-    let four : bits offset 4 4 ≡ 0 = omega (arith, m) in
-    let plain : bit offset 4 ≡ false = rw four refl in
-    valid-single_register cond rn rd offset pre up byte wb load c n d (omega (arith, a, k, m)) plain
-
--- the same with LSL, whose kind is 0
-pub valid-single_lsl : (cond rn rd amount rm : ℕ) (pre up byte wb load : Bool) → cond < NIBBLES → rn < NIBBLES → rd < NIBBLES → amount < 32 → rm < NIBBLES → IsValid (Single cond true pre up byte wb load rn rd (amount * 2 ^ 7 + rm))
-valid-single_lsl cond rn rd amount rm pre up byte wb load c n d a m =
-    let same : amount * 2 ^ 7 + 0 * 2 ^ 5 + rm ≡ amount * 2 ^ 7 + rm = omega arith in
-    subst (λ offset. IsValid (Single cond true pre up byte wb load rn rd offset)) same (valid-single_shift cond rn rd amount 0 rm pre up byte wb load c n d a (omega arith) m)
+    valid-single_by_number cond rn rd (amount * 2 ^ 7 + kind * 2 ^ 5) rm pre up byte wb load c n d (omega arith) (omega (arith, a, k)) m
 
 -- a transfer with a register as it is for its offset
 pub valid-single_plain : (cond rn rd rm : ℕ) (pre up byte wb load : Bool) → cond < NIBBLES → rn < NIBBLES → rd < NIBBLES → rm < NIBBLES → IsValid (Single cond true pre up byte wb load rn rd rm)
@@ -161,4 +164,4 @@ valid-swi cond number c n =
     record { fits = (c, n); own_class = class-group_7 w (omega (arith, c, n)) ∙ rw top refl }
 
 -- those laws whose premises are bounds of the fields, for a crate that encodes: `using(arm_isa::proofs::ValidLaws::valid_instructions)`
-pub ruleset valid_instructions = (valid-data_immediate, valid-data_plain, valid-data_lsl, valid-data_shift, valid-data_shift_by_register, valid-multiply, valid-single_immediate, valid-single_plain, valid-single_lsl, valid-single_shift, valid-block, valid-branch, fits_offset-between, valid-swi)
+pub ruleset valid_instructions = (valid-data_immediate, valid-data_plain, valid-data_by_number, valid-data_by_register, valid-multiply, valid-single_immediate, valid-single_plain, valid-single_by_number, valid-block, valid-branch, fits_offset-between, valid-swi)
