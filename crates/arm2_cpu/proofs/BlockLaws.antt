@@ -5,17 +5,17 @@ use Rattle.std.specs.Int.RustNames.{count_ones}
 use Rattle.std.proofs.lemmas.Nat.{mod-pow-add, ones_cat, ones-le, shr-shr}
 use Rattle.arm2_cpu.specs.declared.regs.Regs.{Regs}
 use Rattle.arm2_cpu.specs.Access.{can_use}
-use Rattle.arm2_cpu.specs.Conditions.{has_bit}
+use Rattle.arm_isa.specs.Fields.{bit}
 use Rattle.arm2_cpu.specs.Memory.{Space, word_at, with_word}
 use Rattle.arm2_cpu.specs.Registers.{with_banked}
 use Rattle.arm2_cpu.specs.Block.{registers_among, registers_in, low_registers_in, next_word, refused_word, with_block, with_words, stored_value}
 
 -- one register more, or none
-pub among_takes : (j k n list : ℕ) → has_bit list n ≡ true → j ≡ suc k → registers_among j n list ≡ n ∷ registers_among k (n + 1) list
+pub among_takes : (j k n list : ℕ) → bit list n ≡ true → j ≡ suc k → registers_among j n list ≡ n ∷ registers_among k (n + 1) list
 unfolding registers_among
 among_takes j k n list set is = rw (is, set) refl
 
-pub among_skips : (j k n list : ℕ) → has_bit list n ≡ false → j ≡ suc k → registers_among j n list ≡ registers_among k (n + 1) list
+pub among_skips : (j k n list : ℕ) → bit list n ≡ false → j ≡ suc k → registers_among j n list ≡ registers_among k (n + 1) list
 unfolding registers_among
 among_skips j k n list clear is = rw (is, clear) refl
 
@@ -35,7 +35,7 @@ none_more n = omega arith
 pub count_among : (k n list : ℕ) → length (registers_among k n list) ≡ count_ones (list / 2 ^ n % 2 ^ k)
 unfolding registers_among
 count_among zero n list = sym (ap count_ones (let e : list / 2 ^ n % 2 ^ 0 ≡ 0 = omega arith in e) ∙ no_ones)
-count_among (suc k) n list = cases (has_bit list n) refl (count_among k (n + 1) list)
+count_among (suc k) n list = cases (bit list n) refl (count_among k (n + 1) list)
   where
     rest : ℕ
     rest = list / 2 ^ (n + 1) % 2 ^ k
@@ -49,7 +49,7 @@ count_among (suc k) n list = cases (has_bit list n) refl (count_among k (n + 1) 
     ones : count_ones (list / 2 ^ n % 2 ^ suc k) ≡ count_ones rest + count_ones (list / 2 ^ n % 2)
     ones = ap count_ones parts ∙ ones_cat 1 rest (list / 2 ^ n % 2) (omega arith)
 
-    cases : (b : Bool) → has_bit list n ≡ b → length (registers_among k (n + 1) list) ≡ count_ones rest → length (registers_among (suc k) n list) ≡ count_ones (list / 2 ^ n % 2 ^ suc k)
+    cases : (b : Bool) → bit list n ≡ b → length (registers_among k (n + 1) list) ≡ count_ones rest → length (registers_among (suc k) n list) ≡ count_ones (list / 2 ^ n % 2 ^ suc k)
     cases true e h =
         let one : list / 2 ^ n % 2 ≡ 1 = eqb-true _ 1 e in
         rw e (ap suc h ∙ sym (ones ∙ ap (λ b. count_ones rest + count_ones b) one ∙ one_more (count_ones rest)))
@@ -97,23 +97,23 @@ allowed_here j k s user at none is = cases (can_use s user at) refl
     cases false e = let h = refused_here j k s user at e is in cc
 
 -- a loop over the registers of a list: what may be used of the words that are left
-pub register_allowed : (j k n list : ℕ) (s : Space) (user : Bool) (at : ℕ) → refused_word (length (registers_among j n list)) s user at ≡ None → has_bit list n ≡ true → j ≡ suc k → can_use s user at ≡ true
+pub register_allowed : (j k n list : ℕ) (s : Space) (user : Bool) (at : ℕ) → refused_word (length (registers_among j n list)) s user at ≡ None → bit list n ≡ true → j ≡ suc k → can_use s user at ≡ true
 register_allowed j k n list s user at none set is =
     allowed_here (length (registers_among j n list)) (length (registers_among k (n + 1) list)) s user at none (ap length (among_takes j k n list set is))
 
-pub rest_allowed : (j k n list : ℕ) (s : Space) (user : Bool) (at : ℕ) → refused_word (length (registers_among j n list)) s user at ≡ None → has_bit list n ≡ true → j ≡ suc k → refused_word (length (registers_among k (n + 1) list)) s user (next_word at) ≡ None
+pub rest_allowed : (j k n list : ℕ) (s : Space) (user : Bool) (at : ℕ) → refused_word (length (registers_among j n list)) s user at ≡ None → bit list n ≡ true → j ≡ suc k → refused_word (length (registers_among k (n + 1) list)) s user (next_word at) ≡ None
 rest_allowed j k n list s user at none set is =
     sym (refused_next (length (registers_among j n list)) (length (registers_among k (n + 1) list)) s user at (register_allowed j k n list s user at none set is) (ap length (among_takes j k n list set is))) ∙ none
 
-pub skipped_allowed : (j k n list : ℕ) (s : Space) (user : Bool) (at : ℕ) → refused_word (length (registers_among j n list)) s user at ≡ None → has_bit list n ≡ false → j ≡ suc k → refused_word (length (registers_among k (n + 1) list)) s user at ≡ None
+pub skipped_allowed : (j k n list : ℕ) (s : Space) (user : Bool) (at : ℕ) → refused_word (length (registers_among j n list)) s user at ≡ None → bit list n ≡ false → j ≡ suc k → refused_word (length (registers_among k (n + 1) list)) s user at ≡ None
 skipped_allowed j k n list s user at none clear is = ap (λ ns. refused_word (length ns) s user at) (sym (among_skips j k n list clear is)) ∙ none
 
 -- what is left to store
-pub block_takes : (j k n list : ℕ) (s : Space) (bytes : List ℕ) (r : Regs) (svc : Bool) (at : ℕ) → has_bit list n ≡ true → j ≡ suc k → with_block (registers_among j n list) s bytes r svc at ≡ with_block (registers_among k (n + 1) list) s (with_word s bytes at (stored_value r svc n)) r svc (next_word at)
+pub block_takes : (j k n list : ℕ) (s : Space) (bytes : List ℕ) (r : Regs) (svc : Bool) (at : ℕ) → bit list n ≡ true → j ≡ suc k → with_block (registers_among j n list) s bytes r svc at ≡ with_block (registers_among k (n + 1) list) s (with_word s bytes at (stored_value r svc n)) r svc (next_word at)
 unfolding with_block
 block_takes j k n list s bytes r svc at set is = ap (λ ns. with_block ns s bytes r svc at) (among_takes j k n list set is)
 
-pub block_skips : (j k n list : ℕ) (s : Space) (bytes : List ℕ) (r : Regs) (svc : Bool) (at : ℕ) → has_bit list n ≡ false → j ≡ suc k → with_block (registers_among j n list) s bytes r svc at ≡ with_block (registers_among k (n + 1) list) s bytes r svc at
+pub block_skips : (j k n list : ℕ) (s : Space) (bytes : List ℕ) (r : Regs) (svc : Bool) (at : ℕ) → bit list n ≡ false → j ≡ suc k → with_block (registers_among j n list) s bytes r svc at ≡ with_block (registers_among k (n + 1) list) s bytes r svc at
 block_skips j k n list s bytes r svc at clear is = ap (λ ns. with_block ns s bytes r svc at) (among_skips j k n list clear is)
 
 pub block_ends : (j n list : ℕ) (s : Space) (bytes : List ℕ) (r : Regs) (svc : Bool) (at : ℕ) → j ≡ 0 → with_block (registers_among j n list) s bytes r svc at ≡ bytes
@@ -121,11 +121,11 @@ unfolding with_block registers_among
 block_ends j n list s bytes r svc at is = rw is refl
 
 -- what is left to load
-pub words_take : (j k n list : ℕ) (s : Space) (bytes : List ℕ) (r : Regs) (svc : Bool) (at : ℕ) → has_bit list n ≡ true → j ≡ suc k → with_words (registers_among j n list) s bytes r svc at ≡ with_words (registers_among k (n + 1) list) s bytes (with_banked svc r n (word_at s bytes at)) svc (next_word at)
+pub words_take : (j k n list : ℕ) (s : Space) (bytes : List ℕ) (r : Regs) (svc : Bool) (at : ℕ) → bit list n ≡ true → j ≡ suc k → with_words (registers_among j n list) s bytes r svc at ≡ with_words (registers_among k (n + 1) list) s bytes (with_banked svc r n (word_at s bytes at)) svc (next_word at)
 unfolding with_words
 words_take j k n list s bytes r svc at set is = ap (λ ns. with_words ns s bytes r svc at) (among_takes j k n list set is)
 
-pub words_skip : (j k n list : ℕ) (s : Space) (bytes : List ℕ) (r : Regs) (svc : Bool) (at : ℕ) → has_bit list n ≡ false → j ≡ suc k → with_words (registers_among j n list) s bytes r svc at ≡ with_words (registers_among k (n + 1) list) s bytes r svc at
+pub words_skip : (j k n list : ℕ) (s : Space) (bytes : List ℕ) (r : Regs) (svc : Bool) (at : ℕ) → bit list n ≡ false → j ≡ suc k → with_words (registers_among j n list) s bytes r svc at ≡ with_words (registers_among k (n + 1) list) s bytes r svc at
 words_skip j k n list s bytes r svc at clear is = ap (λ ns. with_words ns s bytes r svc at) (among_skips j k n list clear is)
 
 pub words_end : (j n list : ℕ) (s : Space) (bytes : List ℕ) (r : Regs) (svc : Bool) (at : ℕ) → j ≡ 0 → with_words (registers_among j n list) s bytes r svc at ≡ r
@@ -143,19 +143,19 @@ allowed_at (suc k) (suc i) s user at word none below =
     ap (can_use s user) later ∙ allowed_at k i s user (next_word at) (omega arith) rest (omega (arith, below))
 
 -- the last of so many registers, where a list has it
-pub among_last : (k n list : ℕ) → has_bit list (n + k) ≡ true → length (registers_among (suc k) n list) ≡ suc (length (registers_among k n list))
+pub among_last : (k n list : ℕ) → bit list (n + k) ≡ true → length (registers_among (suc k) n list) ≡ suc (length (registers_among k n list))
 unfolding registers_among
 among_last zero n list set =
-    let here = ap (has_bit list) (let e : n ≡ n + 0 = omega arith in e) ∙ set in
+    let here = ap (bit list) (let e : n ≡ n + 0 = omega arith in e) ∙ set in
     rw here refl
-among_last (suc k) n list set = cases (has_bit list n) refl (among_last k (n + 1) list (ap (has_bit list) (let e : n + 1 + k ≡ n + suc k = omega arith in e) ∙ set))
+among_last (suc k) n list set = cases (bit list n) refl (among_last k (n + 1) list (ap (bit list) (let e : n + 1 + k ≡ n + suc k = omega arith in e) ∙ set))
   where
-    cases : (b : Bool) → has_bit list n ≡ b → length (registers_among (suc k) (n + 1) list) ≡ suc (length (registers_among k (n + 1) list)) → length (registers_among (suc (suc k)) n list) ≡ suc (length (registers_among (suc k) n list))
+    cases : (b : Bool) → bit list n ≡ b → length (registers_among (suc k) (n + 1) list) ≡ suc (length (registers_among k (n + 1) list)) → length (registers_among (suc (suc k)) n list) ≡ suc (length (registers_among (suc k) n list))
     cases true e h = rw e (ap suc h)
     cases false e h = rw e h
 
 -- the word for R15 may be used
-pub last_allowed : (list : ℕ) (s : Space) (user : Bool) (at count : ℕ) → at < 2 ^ 32 → has_bit list 15 ≡ true → refused_word (length (registers_in list)) s user at ≡ None → count ≡ length (low_registers_in list) → can_use s user ((at + 4 * count) % 2 ^ 32) ≡ true
+pub last_allowed : (list : ℕ) (s : Space) (user : Bool) (at count : ℕ) → at < 2 ^ 32 → bit list 15 ≡ true → refused_word (length (registers_in list)) s user at ≡ None → count ≡ length (low_registers_in list) → can_use s user ((at + 4 * count) % 2 ^ 32) ≡ true
 last_allowed list s user at count word set none is =
     let more = among_last 15 0 list set in
     allowed_at (length (registers_in list)) count s user at word none (omega (arith, more, is))

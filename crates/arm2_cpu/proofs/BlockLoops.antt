@@ -3,7 +3,7 @@ use Rattle.std.proofs.Common.{◌≡◌, ℕ, suc, ◌+◌, ◌-◌, ◌%◌, �
 use Rattle.arm2_cpu.specs.declared.regs.Regs.{Regs}
 use Rattle.arm2_cpu.specs.Access.{can_use}
 use Rattle.arm2_cpu.specs.Block.{registers_among, registers_in, low_registers_in, next_word, refused_word, stored_value, with_block, with_words}
-use Rattle.arm2_cpu.specs.Conditions.{has_bit}
+use Rattle.arm_isa.specs.Fields.{bit}
 use Rattle.arm2_cpu.specs.Memory.{Space, word_at, with_word}
 use Rattle.arm2_cpu.specs.Registers.{IsValidRegs, with_banked}
 use Rattle.arm2_cpu.proofs.BlockLaws.{register_allowed, rest_allowed, skipped_allowed, block_takes, block_skips, block_ends, words_take, words_skip, words_end, refused_next, refused_here, refused_none}
@@ -22,7 +22,7 @@ pub record Loading (s : Space) (list : ℕ) (user : Bool) (n at : ℕ) (bytes : 
   pub valid : IsValidRegs r
 
 -- a register that isn't listed
-pub storing_skips : (s : Space) (list : ℕ) (user : Bool) (n at : ℕ) (bytes first : List ℕ) (r : Regs) (svc : Bool) (start : ℕ) → Storing s list user n at bytes first r svc start → n < 16 → has_bit list n ≡ false → Storing s list user (n + 1) at bytes first r svc start
+pub storing_skips : (s : Space) (list : ℕ) (user : Bool) (n at : ℕ) (bytes first : List ℕ) (r : Regs) (svc : Bool) (start : ℕ) → Storing s list user n at bytes first r svc start → n < 16 → bit list n ≡ false → Storing s list user (n + 1) at bytes first r svc start
 storing_skips s list user n at bytes first r svc start h below clear =
     let left : 16 - n ≡ suc (16 - (n + 1)) = omega (arith, below) in
     record {
@@ -32,7 +32,7 @@ storing_skips s list user n at bytes first r svc start h below clear =
     }
 
 -- a register that is stored
-pub storing_takes : (s : Space) (list : ℕ) (user : Bool) (n at : ℕ) (bytes first : List ℕ) (r : Regs) (svc : Bool) (start value : ℕ) (after : List ℕ) → Storing s list user n at bytes first r svc start → n < 16 → has_bit list n ≡ true → value ≡ stored_value r svc n → after ≡ with_word s bytes at value → Storing s list user (n + 1) (next_word at) after first r svc start
+pub storing_takes : (s : Space) (list : ℕ) (user : Bool) (n at : ℕ) (bytes first : List ℕ) (r : Regs) (svc : Bool) (start value : ℕ) (after : List ℕ) → Storing s list user n at bytes first r svc start → n < 16 → bit list n ≡ true → value ≡ stored_value r svc n → after ≡ with_word s bytes at value → Storing s list user (n + 1) (next_word at) after first r svc start
 storing_takes s list user n at bytes first r svc start value after h below set is stored =
     let left : 16 - n ≡ suc (16 - (n + 1)) = omega (arith, below) in
     let aligned = h.aligned in
@@ -44,14 +44,14 @@ storing_takes s list user n at bytes first r svc start value after h below set i
           ∙ sym (block_takes _ (16 - (n + 1)) n list s bytes r svc at set left) ∙ h.rest;
     }
 
-pub storing_may : (s : Space) (list : ℕ) (user : Bool) (n at : ℕ) (bytes first : List ℕ) (r : Regs) (svc : Bool) (start : ℕ) → Storing s list user n at bytes first r svc start → n < 16 → has_bit list n ≡ true → can_use s user at ≡ true
+pub storing_may : (s : Space) (list : ℕ) (user : Bool) (n at : ℕ) (bytes first : List ℕ) (r : Regs) (svc : Bool) (start : ℕ) → Storing s list user n at bytes first r svc start → n < 16 → bit list n ≡ true → can_use s user at ≡ true
 storing_may s list user n at bytes first r svc start h below set =
     register_allowed _ (16 - (n + 1)) n list s user at h.allowed set (omega (arith, below))
 
 pub storing_ends : (s : Space) (list : ℕ) (user : Bool) (n at : ℕ) (bytes first : List ℕ) (r : Regs) (svc : Bool) (start : ℕ) → Storing s list user n at bytes first r svc start → 16 ≤ n → bytes ≡ with_block (registers_in list) s first r svc start
 storing_ends s list user n at bytes first r svc start h over = sym (block_ends (16 - n) n list s bytes r svc at (omega (arith, over))) ∙ h.rest
 
-pub loading_skips : (s : Space) (list : ℕ) (user : Bool) (n at : ℕ) (bytes : List ℕ) (r first : Regs) (svc : Bool) (start : ℕ) → Loading s list user n at bytes r first svc start → n < 15 → has_bit list n ≡ false → Loading s list user (n + 1) at bytes r first svc start
+pub loading_skips : (s : Space) (list : ℕ) (user : Bool) (n at : ℕ) (bytes : List ℕ) (r first : Regs) (svc : Bool) (start : ℕ) → Loading s list user n at bytes r first svc start → n < 15 → bit list n ≡ false → Loading s list user (n + 1) at bytes r first svc start
 loading_skips s list user n at bytes r first svc start h below clear =
     record {
       aligned = h.aligned;
@@ -60,7 +60,7 @@ loading_skips s list user n at bytes r first svc start h below clear =
       valid = h.valid;
     }
 
-pub loading_takes : (s : Space) (list : ℕ) (user : Bool) (n at : ℕ) (bytes : List ℕ) (r first : Regs) (svc : Bool) (start value : ℕ) (after : Regs) → Loading s list user n at bytes r first svc start → n < 15 → has_bit list n ≡ true → value ≡ word_at s bytes at → after ≡ with_banked svc r n value → IsValidRegs after → Loading s list user (n + 1) (next_word at) bytes after first svc start
+pub loading_takes : (s : Space) (list : ℕ) (user : Bool) (n at : ℕ) (bytes : List ℕ) (r first : Regs) (svc : Bool) (start value : ℕ) (after : Regs) → Loading s list user n at bytes r first svc start → n < 15 → bit list n ≡ true → value ≡ word_at s bytes at → after ≡ with_banked svc r n value → IsValidRegs after → Loading s list user (n + 1) (next_word at) bytes after first svc start
 loading_takes s list user n at bytes r first svc start value after h below set is loaded valid =
     let aligned = h.aligned in
     record {
@@ -72,7 +72,7 @@ loading_takes s list user n at bytes r first svc start value after h below set i
       valid = valid;
     }
 
-pub loading_may : (s : Space) (list : ℕ) (user : Bool) (n at : ℕ) (bytes : List ℕ) (r first : Regs) (svc : Bool) (start : ℕ) → Loading s list user n at bytes r first svc start → n < 15 → has_bit list n ≡ true → can_use s user at ≡ true
+pub loading_may : (s : Space) (list : ℕ) (user : Bool) (n at : ℕ) (bytes : List ℕ) (r first : Regs) (svc : Bool) (start : ℕ) → Loading s list user n at bytes r first svc start → n < 15 → bit list n ≡ true → can_use s user at ≡ true
 loading_may s list user n at bytes r first svc start h below set =
     register_allowed _ (16 - (n + 1)) n list s user at h.allowed set (omega (arith, below))
 

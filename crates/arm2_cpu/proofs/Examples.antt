@@ -11,7 +11,8 @@ use Rattle.arm2_cpu.specs.declared.regs.Regs.{Regs}
 use Rattle.arm2_cpu.specs.declared.shifts.Shifted.{Shifted}
 use Rattle.arm2_cpu.specs.declared.shifts.TheConstants.{ASR}
 use Rattle.arm2_cpu.specs.Branch.{branch_target}
-use Rattle.arm2_cpu.specs.Conditions.{has_bit, carry, with_flags}
+use Rattle.arm_isa.specs.Fields.{bit}
+use Rattle.arm2_cpu.specs.Conditions.{carry, with_flags}
 use Rattle.arm2_cpu.specs.Data.{flagged}
 use Rattle.arm2_cpu.specs.Operations.{is_signed_word}
 use Rattle.arm2_cpu.specs.Shifts.{shifted}
@@ -181,7 +182,7 @@ add_checked : (s : Space) (r : Regs) (bytes : List ℕ) (a b words : ℕ) → re
 unfolding word_of
 add_checked s r bytes a b words first second fits outside add branch =
     let x = summed a b in
-    let n = has_bit x.value 31 in
+    let n = bit x.value 31 in
     let z = x.value == 0 in
     let flags = with_flags n z x.carry x.overflow r in
     let value = (a + b) % 2 ^ 32 in

@@ -5,7 +5,8 @@ use Rattle.std.proofs.lemmas.List.{get_or-set_other}
 use Rattle.arm_isa.proofs.FieldLemmas.{from_bool-lt, flag_of}
 use Rattle.arm2_cpu.specs.declared.regs.Regs.{Regs}
 use Rattle.arm2_cpu.specs.declared.regs.TheConstants.{PC_END}
-use Rattle.arm2_cpu.specs.Conditions.{has_bit, negative, zero_flag, carry, overflow, same, even_condition, holds, with_flags}
+use Rattle.arm_isa.specs.Fields.{bit}
+use Rattle.arm2_cpu.specs.Conditions.{negative, zero_flag, carry, overflow, same, even_condition, holds, with_flags}
 use Rattle.arm2_cpu.specs.Registers.{IsValidRegs, banked, with_banked, register, with_register, mode, pc_ahead, r15, at_next, jumped}
 
 -- the two choices that find a register
@@ -198,8 +199,8 @@ holds-by_psr cond q r same = ap (λ psr. holds cond (record r { psr = psr })) sa
 pub holds-with_register : (cond : ℕ) (r : Regs) (n value : ℕ) → holds cond (with_register r n value) ≡ holds cond r
 holds-with_register cond r n value = holds-by_psr cond (with_register r n value) r (psr-with_register r n value)
 
-pub flag-with_register : (at : ℕ) (r : Regs) (n value : ℕ) → has_bit (with_register r n value).psr at ≡ has_bit r.psr at
-flag-with_register at r n value = ap (λ psr. has_bit psr at) (psr-with_register r n value)
+pub flag-with_register : (at : ℕ) (r : Regs) (n value : ℕ) → bit (with_register r n value).psr at ≡ bit r.psr at
+flag-with_register at r n value = ap (λ psr. bit psr at) (psr-with_register r n value)
 
 mode_few : (svc : Bool) → mode svc ≤ 3
 mode_few true = omega arith

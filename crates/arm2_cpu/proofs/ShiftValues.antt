@@ -8,16 +8,16 @@ use Rattle.std.proofs.Math.Pow.{pow_mono}
 use Rattle.std.specs.Int.{from_bool}
 use Rattle.arm_isa.specs.Immediates.{rotated}
 use Rattle.arm2_cpu.specs.declared.shifts.TheConstants.{LSL, LSR, ASR, ROR}
-use Rattle.arm2_cpu.specs.Conditions.{has_bit}
+use Rattle.arm_isa.specs.Fields.{bit}
 use Rattle.arm2_cpu.specs.Shifts.{complement, complemented, shifted_left, shifted_right, shifted_signed, turned_right, shifted, rotated_through_carry, shifted_by_field}
 use Rattle.arm2_cpu.proofs.ShiftLaws.{left_far, right_far}
 
 -- ---- bits of a word
 
-pub sign-low : (n : ℕ) → n < 2 ^ 31 → has_bit n 31 ≡ false
+pub sign-low : (n : ℕ) → n < 2 ^ 31 → bit n 31 ≡ false
 sign-low n low = ne_eqb (n / 2 ^ 31 % 2) 1 (λ e. omega (arith, e, low))
 
-pub sign-high : (n : ℕ) → 2 ^ 31 ≤ n → n < 2 ^ 32 → has_bit n 31 ≡ true
+pub sign-high : (n : ℕ) → 2 ^ 31 ≤ n → n < 2 ^ 32 → bit n 31 ≡ true
 sign-high n high small = eq-eqb (n / 2 ^ 31 % 2) 1 (omega (arith, high, small))
 
 two_powers : (k : ℕ) → k ≤ 32 → 2 ^ (32 - k) * 2 ^ k ≡ 2 ^ 32
@@ -40,7 +40,7 @@ complement_quotient n k small few =
 flipped : (p q : ℕ) → q < 2 * p → not ((2 * p - 1 - q) % 2 == 1) ≡ (q % 2 == 1)
 flipped p q below = grind (arith, nat_tests)
 
-complement_bit : (n k : ℕ) → n < 2 ^ 32 → k < 32 → not (has_bit (complement n) k) ≡ has_bit n k
+complement_bit : (n k : ℕ) → n < 2 ^ 32 → k < 32 → not (bit (complement n) k) ≡ bit n k
 complement_bit n k small few =
     let double : 2 ^ (32 - k) ≡ 2 * 2 ^ (31 - k) = ap (λ m. 2 ^ m) (let e : 32 - k ≡ 1 + (31 - k) = omega (arith, few) in e) ∙ pow-add 2 1 (31 - k) in
     let whole = two_powers k (omega (arith, few)) in
@@ -55,7 +55,7 @@ unfolding shifted
 shifted-none kind n c = refl
 
 -- LSL by 1 to 32: the carry is the last bit that goes out above
-pub shifted-lsl : (n by : ℕ) (c : Bool) → 0 < by → by ≤ 32 → shifted LSL n by c ≡ record { value = n * 2 ^ by % 2 ^ 32; carry = has_bit n (32 - by) }
+pub shifted-lsl : (n by : ℕ) (c : Bool) → 0 < by → by ≤ 32 → shifted LSL n by c ≡ record { value = n * 2 ^ by % 2 ^ 32; carry = bit n (32 - by) }
 unfolding shifted shifted_left
 shifted-lsl n by c some few =
     let out : n * 2 ^ by / 2 ^ 32 ≡ n / 2 ^ (32 - by) =
@@ -69,12 +69,12 @@ unfolding shifted
 shifted-lsl_far n by c far = rw (ne_eqb by 0 (λ e. omega (arith, e, far))) (sym (left_far n by far))
 
 -- LSR by 1 or more, of which more than 32 leaves nothing: the carry is the last bit that goes out below
-pub shifted-lsr : (n by : ℕ) (c : Bool) → 0 < by → shifted LSR n by c ≡ record { value = n / 2 ^ by; carry = has_bit n (by - 1) }
+pub shifted-lsr : (n by : ℕ) (c : Bool) → 0 < by → shifted LSR n by c ≡ record { value = n / 2 ^ by; carry = bit n (by - 1) }
 unfolding shifted shifted_right
 shifted-lsr n by c some = rw (ne_eqb by 0 (λ e. omega (arith, e, some))) refl
 
-pub shifted-lsr_32 : (n : ℕ) (c : Bool) → n < 2 ^ 32 → shifted LSR n 32 c ≡ record { value = 0; carry = has_bit n 31 }
-shifted-lsr_32 n c small = shifted-lsr n 32 c (omega arith) ∙ (λ i. record { value = (let e : n / 2 ^ 32 ≡ 0 = omega (arith, small) in e) i; carry = has_bit n 31 })
+pub shifted-lsr_32 : (n : ℕ) (c : Bool) → n < 2 ^ 32 → shifted LSR n 32 c ≡ record { value = 0; carry = bit n 31 }
+shifted-lsr_32 n c small = shifted-lsr n 32 c (omega arith) ∙ (λ i. record { value = (let e : n / 2 ^ 32 ≡ 0 = omega (arith, small) in e) i; carry = bit n 31 })
 
 pub shifted-lsr_far : (n by : ℕ) (c : Bool) → n < 2 ^ 32 → 32 < by → shifted LSR n by c ≡ record { value = 0; carry = false }
 unfolding shifted
@@ -87,7 +87,7 @@ shifted-asr_low n by c low = rw (sign-low n low) refl
 
 -- ASR by 1 to 32 of a word with the sign: the bits that come in are 1
 pub shifted-asr_high : (n by : ℕ) (c : Bool) → 2 ^ 31 ≤ n → n < 2 ^ 32 → 0 < by → by ≤ 32
-    → shifted ASR n by c ≡ record { value = n / 2 ^ by + (2 ^ 32 - 2 ^ (32 - by)); carry = has_bit n (by - 1) }
+    → shifted ASR n by c ≡ record { value = n / 2 ^ by + (2 ^ 32 - 2 ^ (32 - by)); carry = bit n (by - 1) }
 unfolding shifted shifted_signed shifted_right
 shifted-asr_high n by c high small some few =
     let whole = two_powers by few in
@@ -118,15 +118,15 @@ shifted-asr_high_far n by c high small far = cases (nat_lt 32 by) refl
         ∙ (λ i. record { value = value i; carry = sign-high n high small i })
 
 -- ROR by 1 or more counts modulo 32
-pub shifted-ror : (n by : ℕ) (c : Bool) → 0 < by → shifted ROR n by c ≡ record { value = rotated n (by % 32); carry = has_bit (rotated n (by % 32)) 31 }
+pub shifted-ror : (n by : ℕ) (c : Bool) → 0 < by → shifted ROR n by c ≡ record { value = rotated n (by % 32); carry = bit (rotated n (by % 32)) 31 }
 unfolding shifted turned_right
 shifted-ror n by c some = rw (ne_eqb by 0 (λ e. omega (arith, e, some))) refl
 
 -- ROR by a multiple of 32 keeps the value
-pub shifted-ror_whole : (n by : ℕ) (c : Bool) → 0 < by → by % 32 ≡ 0 → shifted ROR n by c ≡ record { value = n; carry = has_bit n 31 }
+pub shifted-ror_whole : (n by : ℕ) (c : Bool) → 0 < by → by % 32 ≡ 0 → shifted ROR n by c ≡ record { value = n; carry = bit n 31 }
 shifted-ror_whole n by c some whole =
     let same : rotated n (by % 32) ≡ n = ap (rotated n) whole ∙ (let e : rotated n 0 ≡ n = omega arith in e) in
-    shifted-ror n by c some ∙ (λ i. record { value = same i; carry = has_bit (same i) 31 })
+    shifted-ror n by c some ∙ (λ i. record { value = same i; carry = bit (same i) 31 })
 
 -- ---- by the five bits of an instruction
 
@@ -149,6 +149,6 @@ unfolding shifted_by_field
 field-asr_32 n c = refl
 
 -- RRX, whose five bits are 0
-pub field-rrx : (n : ℕ) (c : Bool) → shifted_by_field ROR n 0 c ≡ record { value = from_bool c * 2 ^ 31 + n / 2; carry = has_bit n 0 }
+pub field-rrx : (n : ℕ) (c : Bool) → shifted_by_field ROR n 0 c ≡ record { value = from_bool c * 2 ^ 31 + n / 2; carry = bit n 0 }
 unfolding shifted_by_field rotated_through_carry
 field-rrx n c = refl

@@ -2,7 +2,8 @@
 use Rattle.std.proofs.Common.{◌≡◌, ℕ, suc, ◌+◌, ◌-◌, ◌%◌, ◌^◌, ◌<◌, ◌≤◌, not, nat_lt, Bool, true, false, ℤ, pos, negsuc, neg_ℤ, ◌+ℤ◌, ◌-ℤ◌, ◌≤ℤ◌, ◌<ℤ◌, FitsSigned, refl, ◌∙◌, arith, lt-ltb, le-ltb, ltb-true, ltb-false}
 use Rattle.std.proofs.lemmas.Int.{ints, int_wrap_fits, wrapping_add-bits, wrapping_sub-bits}
 use Rattle.std.specs.Int.{w32, cast_signed}
-use Rattle.arm2_cpu.specs.Conditions.{has_bit, same}
+use Rattle.arm_isa.specs.Fields.{bit}
+use Rattle.arm2_cpu.specs.Conditions.{same}
 use Rattle.arm2_cpu.specs.Operations.{is_signed_word}
 use Rattle.arm2_cpu.proofs.ShiftValues.{sign-low, sign-high}
 use Rattle.arm2_cpu.proofs.ValueLaws.{minus, signed-low, signed-high}
@@ -33,9 +34,9 @@ difference-exact a b small below clear = wrapping_sub-bits w32 a b small below �
 
 -- GE of a comparison
 abbrev ge : ℕ → ℤ → Bool
-ge m z = same (has_bit m 31) (not (is_signed_word z))
+ge m z = same (bit m 31) (not (is_signed_word z))
 
-ge-at : (m : ℕ) (z : ℤ) (n w : Bool) → has_bit m 31 ≡ n → is_signed_word z ≡ w → ge m z ≡ same n (not w)
+ge-at : (m : ℕ) (z : ℤ) (n w : Bool) → bit m 31 ≡ n → is_signed_word z ≡ w → ge m z ≡ same n (not w)
 ge-at m z n w e f = (λ i. same (e i) (not (f i)))
 
 both_low : (a b : ℕ) → a < 2 ^ 31 → b < 2 ^ 31 → (b ≤ a → ge (minus a b) (pos a -ℤ pos b) ≡ true) × (a < b → ge (minus a b) (pos a -ℤ pos b) ≡ false)

@@ -3,7 +3,7 @@ use Rattle.std.proofs.Common.{◌-◌, ◌≤◌, ◌≡◌, ℕ, zero, suc, ◌
 use Rattle.std.proofs.Math.Bool.{or-false}
 use Rattle.std.proofs.lemmas.Bool.{ne_eqb}
 use Rattle.arm_isa.specs.declared.instruction.Instr.TheVariants.{Mul, Single, Block}
-use Rattle.arm_isa.specs.Fields.{bits}
+use Rattle.arm_isa.specs.Fields.{bits, bit}
 use Rattle.arm_isa.specs.Immediates.{rotated}
 use Rattle.arm2_cpu.specs.declared.operations.Computed.{Computed}
 use Rattle.arm2_cpu.specs.declared.regs.Regs.{Regs}
@@ -11,7 +11,7 @@ use Rattle.arm2_cpu.specs.declared.regs.TheConstants.{PC_END, R15}
 use Rattle.arm2_cpu.specs.declared.shifts.Shifted.{Shifted}
 use Rattle.arm2_cpu.specs.Access.{moved, offset_of, single_access, block_access, with_base_taking, can_use}
 use Rattle.arm2_cpu.specs.Block.{registers_in, low_registers_in, next_word, refused_word, stored_value, with_block, with_words, store_block, load_block, load_with_r15, block_step}
-use Rattle.arm2_cpu.specs.Conditions.{has_bit, same, carry, overflow, holds}
+use Rattle.arm2_cpu.specs.Conditions.{same, carry, overflow, holds}
 use Rattle.arm2_cpu.specs.Data.{flagged, loaded}
 use Rattle.arm2_cpu.specs.Memory.{Space, word_at, byte_at, with_word, with_byte, word_address}
 use Rattle.arm2_cpu.specs.Multiply.{product, multiplied, multiply_step}
@@ -371,12 +371,12 @@ stm_done : (s : Space) (r : Regs) (bytes : List ℕ) (list start rn : ℕ) (back
 unfolding block_step store_block
 stm_done s r bytes list start rn back allowed = rw allowed refl
 
-ldm_done : (s : Space) (r : Regs) (bytes : List ℕ) (list start rn : ℕ) (back : Option ℕ) → refused_word (length (registers_in list)) s (not r.svc) start ≡ None → has_bit list 15 ≡ false
+ldm_done : (s : Space) (r : Regs) (bytes : List ℕ) (list start rn : ℕ) (back : Option ℕ) → refused_word (length (registers_in list)) s (not r.svc) start ≡ None → bit list 15 ≡ false
     → block_step s r bytes false true list (record { user = not r.svc; address = start; base = rn; written_back = back }) ≡ goes (at_next (with_words (low_registers_in list) s bytes (with_base_taking back r rn) r.svc start)) bytes
 unfolding block_step load_block
 ldm_done s r bytes list start rn back allowed clear = rw (allowed, clear) refl
 
-ldm_pc_done : (s : Space) (r : Regs) (bytes : List ℕ) (list start rn : ℕ) (back : Option ℕ) → refused_word (length (registers_in list)) s (not r.svc) start ≡ None → has_bit list 15 ≡ true
+ldm_pc_done : (s : Space) (r : Regs) (bytes : List ℕ) (list start rn : ℕ) (back : Option ℕ) → refused_word (length (registers_in list)) s (not r.svc) start ≡ None → bit list 15 ≡ true
     → block_step s r bytes false true list (record { user = not r.svc; address = start; base = rn; written_back = back })
     ≡ goes (jumped (with_words (low_registers_in list) s bytes (with_base_taking back r rn) r.svc start) (word_at s bytes ((start + 4 * length (low_registers_in list)) % 2 ^ 32))) bytes
 unfolding block_step load_block load_with_r15
@@ -395,7 +395,7 @@ step-stm s r bytes cond pre up wb rn list target start f meets fine moves begins
 
 -- LDM without ^ and R15
 pub step-ldm : (s : Space) (r : Regs) (bytes : List ℕ) (cond : ℕ) (pre up wb : Bool) (rn list target start : ℕ)
-    → Fetches s r bytes (Block cond pre up false wb true rn list) → holds cond r ≡ true → is_open_block false wb true rn list ≡ false → has_bit list 15 ≡ false
+    → Fetches s r bytes (Block cond pre up false wb true rn list) → holds cond r ≡ true → is_open_block false wb true rn list ≡ false → bit list 15 ≡ false
     → moved up (register r rn) (4 * length (registers_in list)) ≡ target → block_start pre up (register r rn) target ≡ start
     → refused_word (length (registers_in list)) s (not r.svc) start ≡ None
     → cpu_step s r bytes ≡ goes (at_next (with_words (low_registers_in list) s bytes (with_base_taking (taken_back wb target) r rn) r.svc start)) bytes
@@ -406,7 +406,7 @@ step-ldm s r bytes cond pre up wb rn list target start f meets fine clear moves 
 
 -- LDM without ^ that loads R15: a jump that keeps the flags
 pub step-ldm_pc : (s : Space) (r : Regs) (bytes : List ℕ) (cond : ℕ) (pre up wb : Bool) (rn list target start : ℕ)
-    → Fetches s r bytes (Block cond pre up false wb true rn list) → holds cond r ≡ true → is_open_block false wb true rn list ≡ false → has_bit list 15 ≡ true
+    → Fetches s r bytes (Block cond pre up false wb true rn list) → holds cond r ≡ true → is_open_block false wb true rn list ≡ false → bit list 15 ≡ true
     → moved up (register r rn) (4 * length (registers_in list)) ≡ target → block_start pre up (register r rn) target ≡ start
     → refused_word (length (registers_in list)) s (not r.svc) start ≡ None
     → cpu_step s r bytes ≡ goes (jumped (with_words (low_registers_in list) s bytes (with_base_taking (taken_back wb target) r rn) r.svc start) (word_at s bytes ((start + 4 * length (low_registers_in list)) % 2 ^ 32))) bytes

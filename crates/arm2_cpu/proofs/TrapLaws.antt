@@ -2,7 +2,7 @@
 use Rattle.std.proofs.Common.{◌≡◌, ℕ, ◌==◌, not, Bool, true, false, if◌then◌else◌, List, length, Option, Some, None, ℤ, refl, subst}
 use Rattle.arm_isa.specs.declared.instruction.Instr.{Instr}
 use Rattle.arm_isa.specs.declared.instruction.Instr.TheVariants.{Data, Mul, Single, Block, Branch, Swi, Undefined}
-use Rattle.arm_isa.specs.Fields.{bits}
+use Rattle.arm_isa.specs.Fields.{bits, bit}
 use Rattle.arm_isa.specs.Words.{means}
 use Rattle.arm2_cpu.specs.declared.access.Access.{Access}
 use Rattle.arm2_cpu.specs.declared.event.CpuEvent.{CpuEvent}
@@ -13,7 +13,7 @@ use Rattle.arm2_cpu.specs.declared.regs.TheConstants.{R15}
 use Rattle.arm2_cpu.specs.Access.{single_access, block_access}
 use Rattle.arm2_cpu.specs.Block.{registers_in, refused_word, unless_refused, store_block, load_with_r15, load_block, last_word, block_step}
 use Rattle.arm2_cpu.specs.Branch.{branch_step}
-use Rattle.arm2_cpu.specs.Conditions.{has_bit, holds}
+use Rattle.arm2_cpu.specs.Conditions.{holds}
 use Rattle.arm2_cpu.specs.Data.{tested, set_with_flags, concluded, data_step}
 use Rattle.arm2_cpu.specs.Memory.{Space, read_word}
 use Rattle.arm2_cpu.specs.Multiply.{multiply_step}
@@ -81,7 +81,7 @@ load_r15_keeps s r bytes psr list a = either psr _ _ r (either (takes_psr r (las
 
 load_block_keeps : (s : Space) (r : Regs) (bytes : List ℕ) (psr : Bool) (list : ℕ) (a : Access) → Keeps r (load_block s r bytes psr list a)
 unfolding load_block
-load_block_keeps s r bytes psr list a = either (has_bit list 15) _ _ r (load_r15_keeps s r bytes psr list a) tt
+load_block_keeps s r bytes psr list a = either (bit list 15) _ _ r (load_r15_keeps s r bytes psr list a) tt
 
 store_block_keeps : (s : Space) (r : Regs) (bytes : List ℕ) (psr : Bool) (list : ℕ) (a : Access) → KeepsAll r bytes (store_block s r bytes psr list a)
 unfolding store_block

@@ -1,20 +1,21 @@
 -- What operations and operands give, in plain numbers.
-use Rattle.std.proofs.Common.{◌≡◌, ℕ, suc, ◌+◌, ◌-◌, ◌*◌, ◌/◌, ◌%◌, ◌^◌, ◌<◌, ◌≤◌, ◌==◌, ◌||◌, not, nat_le, nat_lt, Bool, true, false, if◌then◌else◌, bit_and, bit_or, bit_xor, ℤ, pos, negsuc, ◌+ℤ◌, ◌-ℤ◌, refl, ap, ◌∙◌, arith, eq-eqb, lt-ltb, le-ltb, ltb-true, ltb-false}
+use Rattle.std.proofs.Common.{◌≡◌, ℕ, suc, ◌+◌, ◌-◌, ◌*◌, ◌/◌, ◌%◌, ◌^◌, ◌<◌, ◌≤◌, ◌==◌, ◌||◌, not, nat_le, nat_lt, Bool, true, false, if◌then◌else◌, bit_and, bit_or, bit_xor, ℤ, pos, negsuc, ◌+ℤ◌, ◌-ℤ◌, refl, ap, ◌∙◌, arith, lt-ltb, le-ltb, ltb-true, ltb-false}
 use Rattle.std.proofs.lemmas.Bool.{ne_eqb}
 use Rattle.std.proofs.lemmas.Int.{ints}
 use Rattle.std.proofs.lemmas.Bool.Decides.{nat_tests}
 use Rattle.std.proofs.lemmas.Nat.{and_le_l, or_lt, xor_lt}
 use Rattle.std.specs.Int.{w32, cast_signed, from_bool}
-use Rattle.arm_isa.specs.Fields.{bits}
+use Rattle.arm_isa.specs.Fields.{bits, bit}
 use Rattle.arm_isa.specs.Immediates.{rotated, turns_of, immediate_value}
 use Rattle.arm_isa.proofs.ImmediateLaws.{immediate_value-byte}
+use Rattle.arm_isa.proofs.ShiftFields.{shift-fields, register_shift-fields}
 use Rattle.arm2_cpu.specs.declared.operations.Computed.{Computed}
 use Rattle.arm2_cpu.specs.declared.operations.TheConstants.{AND, EOR, SUB, RSB, ADD, ADC, SBC, RSC, TST, TEQ, CMP, CMN, ORR, MOV, BIC, MVN}
 use Rattle.arm2_cpu.specs.declared.regs.Regs.{Regs}
 use Rattle.arm2_cpu.specs.declared.regs.TheConstants.{R15}
 use Rattle.arm2_cpu.specs.declared.shifts.Shifted.{Shifted}
 use Rattle.arm2_cpu.specs.declared.shifts.TheConstants.{ASR}
-use Rattle.arm2_cpu.specs.Conditions.{has_bit, carry}
+use Rattle.arm2_cpu.specs.Conditions.{carry}
 use Rattle.arm2_cpu.specs.Operands.{by_register, first_operand, second_operand, whole_operand, immediate_operand, amount_operand, register_operand}
 use Rattle.arm2_cpu.specs.Operations.{is_signed_word, added, subtracted, logical, computed}
 use Rattle.arm2_cpu.specs.Registers.{register, pc_ahead, r15}
@@ -313,7 +314,7 @@ second-immediate r op2 = refl
 
 -- an immediate with its carry
 pub second-immediate_carry : (r : Regs) (op2 : ℕ)
-    → second_operand r true op2 ≡ record { value = immediate_value op2; carry = if turns_of op2 == 0 then carry r else has_bit (immediate_value op2) 31 }
+    → second_operand r true op2 ≡ record { value = immediate_value op2; carry = if turns_of op2 == 0 then carry r else bit (immediate_value op2) 31 }
 unfolding second_operand immediate_operand
 second-immediate_carry r op2 = refl
 
@@ -322,7 +323,7 @@ pub second-byte : (r : Regs) (op2 : ℕ) → op2 < 256 → second_operand r true
 second-byte r op2 small =
     let unturned : turns_of op2 ≡ 0 = omega (arith, small) in
     second-immediate_carry r op2
-    ∙ (λ i. record { value = immediate_value-byte op2 small i; carry = if unturned i == 0 then carry r else has_bit (immediate_value op2) 31 })
+    ∙ (λ i. record { value = immediate_value-byte op2 small i; carry = if unturned i == 0 then carry r else bit (immediate_value op2) 31 })
 
 -- a register whose shift has its amount in the instruction, and one that isn't shifted
 pub shift_is_amount : (amount kind rm : ℕ) → kind < 4 → rm < 15 → by_register false (amount * 2 ^ 7 + kind * 2 ^ 5 + rm) ≡ false
@@ -335,11 +336,8 @@ pub amount-shifted : (r : Regs) (amount kind rm : ℕ) → amount < 32 → kind 
     → amount_operand r (amount * 2 ^ 7 + kind * 2 ^ 5 + rm) ≡ shifted_by_field kind (register r rm) amount (carry r)
 unfolding amount_operand
 amount-shifted r amount kind rm few four low =
-    let op2 = amount * 2 ^ 7 + kind * 2 ^ 5 + rm in
-    let is_kind : bits op2 6 5 ≡ kind = omega (arith, few, four, low) in
-    let is_rm : bits op2 3 0 ≡ rm = omega (arith, few, four, low) in
-    let is_amount : bits op2 11 7 ≡ amount = omega (arith, few, four, low) in
-    (λ i. shifted_by_field (is_kind i) (whole_operand r 8 (is_rm i)) (is_amount i) (carry r))
+    let fields = shift-fields amount kind rm few four (omega (arith, low)) in
+    (λ i. shifted_by_field (fields.2 i) (whole_operand r 8 (fields.4 i)) (fields.1 i) (carry r))
     ∙ ap (λ w. shifted_by_field kind w amount (carry r)) (whole-register r 8 rm low)
 
 pub amount-plain : (r : Regs) (rm : ℕ) → rm < 15 → amount_operand r rm ≡ record { value = register r rm; carry = carry r }
@@ -348,7 +346,7 @@ amount-plain r rm low =
     ∙ amount-shifted r 0 0 rm (omega arith) (omega arith) low ∙ field-lsl_0 (register r rm) (carry r)
 
 pub amount-lsl : (r : Regs) (amount rm : ℕ) → 0 < amount → amount < 32 → rm < 15
-    → amount_operand r (amount * 2 ^ 7 + rm) ≡ record { value = register r rm * 2 ^ amount % 2 ^ 32; carry = has_bit (register r rm) (32 - amount) }
+    → amount_operand r (amount * 2 ^ 7 + rm) ≡ record { value = register r rm * 2 ^ amount % 2 ^ 32; carry = bit (register r rm) (32 - amount) }
 amount-lsl r amount rm some few low =
     ap (amount_operand r) (let e : amount * 2 ^ 7 + rm ≡ amount * 2 ^ 7 + 0 * 2 ^ 5 + rm = omega arith in e)
     ∙ amount-shifted r amount 0 rm few (omega arith) low ∙ field-amount 0 (register r rm) amount (carry r) some
@@ -407,9 +405,6 @@ pub second-by_register : (r : Regs) (rs kind rm : ℕ) → rs < 16 → kind < 4 
 unfolding second_operand register_operand
 second-by_register r rs kind rm sixteen four low =
     let op2 = rs * 2 ^ 8 + kind * 2 ^ 5 + 1 * 2 ^ 4 + rm in
-    let by_register : has_bit op2 4 ≡ true = eq-eqb (bits op2 4 4) 1 (omega (arith, sixteen, four, low)) in
-    let is_kind : bits op2 6 5 ≡ kind = omega (arith, sixteen, four, low) in
-    let is_rm : bits op2 3 0 ≡ rm = omega (arith, sixteen, four, low) in
-    let is_rs : bits op2 11 8 ≡ rs = omega (arith, sixteen, four, low) in
-    (λ i. if by_register i then shifted (is_kind i) (whole_operand r 12 (is_rm i)) (register r (is_rs i) % 2 ^ 8) (carry r) else amount_operand r op2)
+    let fields = register_shift-fields rs kind rm sixteen four (omega (arith, low)) in
+    (λ i. if fields.4 i then shifted (fields.3 i) (whole_operand r 12 (fields.5 i)) (register r (fields.1 i) % 2 ^ 8) (carry r) else amount_operand r op2)
     ∙ ap (λ w. shifted kind w (register r rs % 2 ^ 8) (carry r)) (whole-register r 12 rm low)

@@ -5,7 +5,7 @@ use Rattle.arm2_cpu.specs.declared.access.Access.{Access}
 use Rattle.arm2_cpu.specs.declared.regs.Regs.{Regs}
 use Rattle.arm2_cpu.specs.declared.regs.TheConstants.{R15}
 use Rattle.arm2_cpu.specs.Access.{with_base, can_use, data_trapped}
-use Rattle.arm2_cpu.specs.Conditions.{has_bit}
+use Rattle.arm_isa.specs.Fields.{bit}
 use Rattle.arm2_cpu.specs.Memory.{Space, word_at, with_word}
 use Rattle.arm2_cpu.specs.Outcomes.{Done, Stepped, with_memory, ran, trapped}
 use Rattle.arm2_cpu.specs.Registers.{banked, with_banked, r15, at_next, jumped, takes_psr, with_psr}
@@ -13,7 +13,7 @@ use Rattle.arm2_cpu.specs.Registers.{banked, with_banked, r15, at_next, jumped, 
 -- the registers of a list, among so many from n on: those whose bit is 1, rising
 unfoldable pub registers_among : ℕ → ℕ → ℕ → List ℕ
 registers_among zero n list = []
-registers_among (suc k) n list = if has_bit list n then n ∷ registers_among k (n + 1) list else registers_among k (n + 1) list
+registers_among (suc k) n list = if bit list n then n ∷ registers_among k (n + 1) list else registers_among k (n + 1) list
 
 -- the registers of a list, and those of them below R15
 abbrev pub registers_in : ℕ → List ℕ
@@ -33,7 +33,7 @@ refused_word (suc k) s user at = if can_use s user at then refused_word k s user
 
 -- the user bank is used with ^, unless R15 is loaded
 abbrev pub uses_user_bank : Bool → Bool → ℕ → Bool
-uses_user_bank psr load list = psr && not (load && has_bit list 15)
+uses_user_bank psr load list = psr && not (load && bit list 15)
 
 -- the mode whose R13 and R14 are transferred
 abbrev pub bank_of : Regs → Bool → Bool → ℕ → Bool
@@ -77,7 +77,7 @@ load_with_r15 s r bytes psr list a =
 -- LDM
 unfoldable pub load_block : Space → Regs → List ℕ → Bool → ℕ → Access → Done
 load_block s r bytes psr list a =
-    if has_bit list 15 then load_with_r15 s r bytes psr list a
+    if bit list 15 then load_with_r15 s r bytes psr list a
     else ran (at_next (with_low_words s r bytes (if psr then false else r.svc) list a))
 
 -- nothing is transferred unless all addresses may be used

@@ -1,24 +1,21 @@
 -- Flags and conditions (VL86C010 (ARM2) data manual, the condition field).
 use Rattle.std.specs.Prelude.{ℕ, ◌+◌, ◌*◌, ◌/◌, ◌%◌, ◌^◌, ◌==◌, ◌&&◌, not, Bool, true, if◌then◌else◌}
 use Rattle.std.specs.Int.{from_bool}
+use Rattle.arm_isa.specs.Fields.{bit}
 use Rattle.arm2_cpu.specs.declared.regs.Regs.{Regs}
-
--- whether a bit of a number is 1
-abbrev pub has_bit : ℕ → ℕ → Bool
-has_bit n at = n / 2 ^ at % 2 == 1
 
 -- the flags: N Z C V I F are bits 5 to 0
 abbrev pub negative : Regs → Bool
-negative r = has_bit r.psr 5
+negative r = bit r.psr 5
 
 abbrev pub zero_flag : Regs → Bool
-zero_flag r = has_bit r.psr 4
+zero_flag r = bit r.psr 4
 
 abbrev pub carry : Regs → Bool
-carry r = has_bit r.psr 3
+carry r = bit r.psr 3
 
 abbrev pub overflow : Regs → Bool
-overflow r = has_bit r.psr 2
+overflow r = bit r.psr 2
 
 -- whether two flags are the same
 abbrev pub same : Bool → Bool → Bool

@@ -1,17 +1,17 @@
 -- The operands of data processing (VL86C010 (ARM2) data manual, data processing; R15 as an operand).
 use Rattle.std.specs.Prelude.{ℕ, ◌%◌, ◌^◌, ◌==◌, ◌&&◌, not, Bool, if◌then◌else◌}
-use Rattle.arm_isa.specs.Fields.{bits}
+use Rattle.arm_isa.specs.Fields.{bits, bit}
 use Rattle.arm_isa.specs.Immediates.{turns_of, immediate_value}
 use Rattle.arm2_cpu.specs.declared.regs.Regs.{Regs}
 use Rattle.arm2_cpu.specs.declared.regs.TheConstants.{R15}
 use Rattle.arm2_cpu.specs.declared.shifts.Shifted.{Shifted}
-use Rattle.arm2_cpu.specs.Conditions.{has_bit, carry}
+use Rattle.arm2_cpu.specs.Conditions.{carry}
 use Rattle.arm2_cpu.specs.Registers.{register, pc_ahead, r15}
 use Rattle.arm2_cpu.specs.Shifts.{shifted, shifted_by_field}
 
 -- a register operand with its amount in a register
 abbrev pub by_register : Bool → ℕ → Bool
-by_register imm op2 = not imm && has_bit op2 4
+by_register imm op2 = not imm && bit op2 4
 
 -- how many bytes ahead of the instruction R15 reads
 abbrev pub ahead_of : Bool → ℕ → ℕ
@@ -27,7 +27,7 @@ whole_operand r ahead n = if n == R15 then r15 r ahead else register r n
 
 -- an immediate: C is bit 31 of the value, unless the rotation is 0
 unfoldable pub immediate_operand : ℕ → Bool → Shifted
-immediate_operand op2 c = record { value = immediate_value op2; carry = if turns_of op2 == 0 then c else has_bit (immediate_value op2) 31 }
+immediate_operand op2 c = record { value = immediate_value op2; carry = if turns_of op2 == 0 then c else bit (immediate_value op2) 31 }
 
 -- a register, shifted by an amount of five bits
 unfoldable pub amount_operand : Regs → ℕ → Shifted
@@ -41,5 +41,5 @@ register_operand r op2 = shifted (bits op2 6 5) (whole_operand r 12 (bits op2 3 
 unfoldable pub second_operand : Regs → Bool → ℕ → Shifted
 second_operand r imm op2 =
     if imm then immediate_operand op2 (carry r)
-    else if has_bit op2 4 then register_operand r op2
+    else if bit op2 4 then register_operand r op2
     else amount_operand r op2

@@ -1,12 +1,11 @@
 -- The instructions whose effect the processor's manual leaves open.
 use Rattle.std.specs.Prelude.{ℕ, ◌==◌, ◌&&◌, ◌||◌, not, Bool, false}
-use Rattle.arm_isa.specs.Fields.{bits}
+use Rattle.arm_isa.specs.Fields.{bits, bit}
 use Rattle.arm_isa.specs.declared.instruction.Instr.{Instr}
 use Rattle.arm_isa.specs.declared.instruction.Instr.TheVariants.{Data, Mul, Single, Block, Branch, Swi, Undefined}
 use Rattle.arm2_cpu.specs.declared.regs.TheConstants.{R15}
 use Rattle.arm2_cpu.specs.Access.{writes_back}
 use Rattle.arm2_cpu.specs.Block.{uses_user_bank}
-use Rattle.arm2_cpu.specs.Conditions.{has_bit}
 use Rattle.arm2_cpu.specs.Operands.{by_register}
 use Rattle.arm2_cpu.specs.Operations.{is_test}
 
@@ -29,7 +28,7 @@ is_open_single reg pre byte wb load rn rd offset =
 -- LDM and STM: an empty list, R15 as the base, the base in the list with W, or the user bank with W
 abbrev pub is_open_block : Bool → Bool → Bool → ℕ → ℕ → Bool
 is_open_block psr wb load rn list =
-    (list == 0) || (rn == R15) || (wb && (has_bit list rn || uses_user_bank psr load list))
+    (list == 0) || (rn == R15) || (wb && (bit list rn || uses_user_bank psr load list))
 
 -- the list, by class
 unfoldable pub is_unpredictable : Instr → Bool

@@ -1,7 +1,7 @@
 ghost use Rattle.std.specs.Prelude.{◌≡◌, ◌≤◌, ◌<◌, ◌%◌, ◌^◌, true, None, length};
 ghost use Rattle.arm2_cpu.specs.Access.{can_use};
 ghost use Rattle.arm2_cpu.specs.Block.{registers_among, registers_in, low_registers_in, next_word, refused_word, stored_value, with_block, with_words, store_block, last_word, with_low_words, load_with_r15, load_block, block_step};
-ghost use Rattle.arm2_cpu.specs.Conditions.{has_bit};
+ghost use Rattle.arm_isa.specs.Fields.{bit};
 ghost use Rattle.arm2_cpu.specs.Memory.{word_at, with_word};
 ghost use Rattle.arm2_cpu.specs.Registers.{IsValidRegs};
 
@@ -15,7 +15,7 @@ use bv_io::Trap;
 /// Whether a list has a register.
 fn is_listed(list: u16, n: u8) -> bool
     requires { n < 16 }
-    ensures { result ≡ has_bit list n }
+    ensures { result ≡ bit list n }
 {
     has_bit(list.into(), n.into())
 }
@@ -175,7 +175,7 @@ fn load_low<M: Memory>(regs: &mut Regs, mem: &M, svc: bool, list: u16, access: &
 /// The last word of a block that R15 is loaded from.
 fn last_word<M: Memory>(mem: &M, list: u16, access: &Access) -> u32
     requires aligned { access.now.address % 4 ≡ 0 }
-    requires listed { has_bit list 15 ≡ true }
+    requires listed { bit list 15 ≡ true }
     requires allowed { refused_word (length (registers_in list)) M.space access.now.user access.now.address ≡ None }
     ensures { result ≡ last_word M.space (M.bytes mem.now) list access.now }
 {
@@ -194,7 +194,7 @@ fn load_with_r15<M: Memory>(
 ) -> CpuEvent
     requires valid { IsValidRegs regs.old }
     requires aligned { access.now.address % 4 ≡ 0 }
-    requires listed { has_bit list 15 ≡ true }
+    requires listed { bit list 15 ≡ true }
     requires allowed { refused_word (length (registers_in list)) M.space access.now.user access.now.address ≡ None }
     ensures value { load_with_r15 M.space regs.old (M.bytes mem.now) psr list access.now ≡ record { event = result; regs = regs.new } }
     ensures valid { IsValidRegs regs.new }

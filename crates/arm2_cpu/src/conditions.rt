@@ -1,5 +1,6 @@
 ghost use Rattle.std.specs.Prelude.{◌≡◌, ◌<◌, ◌≤◌};
-ghost use Rattle.arm2_cpu.specs.Conditions.{has_bit, even_condition, holds, with_flags};
+ghost use Rattle.arm_isa.specs.Fields.{bit};
+ghost use Rattle.arm2_cpu.specs.Conditions.{even_condition, holds, with_flags};
 ghost use Rattle.arm2_cpu.specs.Registers.{IsValidRegs};
 
 use crate::regs::Regs;
@@ -7,7 +8,7 @@ use crate::regs::Regs;
 /// Whether a bit of a number is 1.
 pub(crate) fn has_bit(n: u32, at: u32) -> bool
     requires { at < 32 }
-    ensures { result ≡ has_bit n at }
+    ensures { result ≡ bit n at }
 {
     (n >> at) % 2 == 1
 }

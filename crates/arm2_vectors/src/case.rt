@@ -1,9 +1,8 @@
-ghost use Rattle.std.specs.Prelude.{IsTrue};
 ghost use Rattle.arm2_cpu.specs.Registers.{IsValidRegs};
 
 use crate::fields::{Fields, decimal, hexadecimal};
 use crate::words::{Words, words_of};
-use arm2_cpu::{CpuEvent, PC_END, PSR_END, Regs};
+use arm2_cpu::{CpuEvent, Regs};
 use bv_io::Trap;
 
 /// How many registers both modes share, R0 to R12.
@@ -59,13 +58,6 @@ fn registers(svc: bool, pc: u32, psr: u8, fields: &mut Fields<'_>) -> Option<Reg
         psr,
         svc,
     })
-}
-
-/// Registers that `step_cpu` takes: the PC and the flags are in range.
-fn is_valid(regs: &Regs) -> bool
-    ensures { IsTrue result → IsValidRegs regs.now }
-{
-    regs.pc % 4 == 0 && regs.pc < PC_END && regs.psr < PSR_END
 }
 
 /// Gives a register of R0 to R12 a new value.
@@ -154,7 +146,7 @@ pub fn parse(line: &str) -> Option<Case> {
     let after = changed(&before, fields.next()?)?;
     let written = words_of(fields.next()?)?;
     let _mark = fields.next()?;
-    if !is_valid(&before) || !fields.is_empty() {
+    if !before.is_valid() || !fields.is_empty() {
         return None;
     }
     Some(Case {

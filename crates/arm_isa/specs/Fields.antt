@@ -7,7 +7,7 @@ bits word high low = word / 2 ^ low % 2 ^ (high + 1 - low)
 
 -- whether a bit of a word is 1
 abbrev pub bit : ℕ → ℕ → Bool
-bit word at = bits word at at == 1
+bit word at = word / 2 ^ at % 2 == 1
 
 -- bits 7 and 4 of a word are both 1, which no register operand of data processing has
 abbrev pub has_bits_7_and_4 : ℕ → Bool
