@@ -1,9 +1,9 @@
 -- What an image file is read as.
-use Rattle.std.proofs.Common.{◌≡◌, ℕ, zero, suc, ◌+◌, ◌-◌, ◌*◌, ◌/◌, ◌%◌, ◌<◌, ◌≤◌, List, [], ◌∷◌, ◌++◌, length, take, drop, flat_map, slice_index, slice_get, refl, sym, ap, subst, ◌∙◌, arith, append_assoc, length-drop, get_or-drop, take-add, drop-drop, take_all}
+use Rattle.std.proofs.Common.{◌≡◌, ℕ, zero, suc, ◌+◌, ◌-◌, ◌*◌, ◌/◌, ◌%◌, ◌^◌, ◌<◌, ◌≤◌, List, [], ◌∷◌, ◌++◌, length, take, drop, flat_map, slice_index, slice_get, refl, sym, ap, subst, ◌∙◌, arith, append_assoc, length-drop, get_or-drop, take-add, drop-drop, take_all}
 use Rattle.byteorder.specs.Endian.{little_number}
 use Rattle.arm2_machine.specs.declared.image.TheConstants.{MAGIC}
 use Rattle.arm2_machine.specs.Words.{word_bytes, AreWords}
-use Rattle.arm2_machine.specs.Image.{ImageOf, MagicEnds, word_count, NotImage, Unlike, CutOff, OtherEnd, HasOneImage}
+use Rattle.arm2_machine.specs.Image.{ImageOf, MagicEnds, word_count, IsTooLong, NotImage, Unlike, CutOff, OtherEnd, HasOneImage}
 use Rattle.arm2_machine.proofs.Memory.{word_from_bytes, length-flat_map-word_bytes}
 
 -- the first four bytes are those of the word that they make
@@ -72,6 +72,10 @@ flat_map-more : (words : List ℕ) (w : ℕ) → flat_map word_bytes (words ++ w
 flat_map-more [] w = refl
 flat_map-more (v ∷ vs) w = ap (λ l. word_bytes v ++ l) (flat_map-more vs w) ∙ sym (append_assoc (word_bytes v) _ (word_bytes w))
 
+pub one_word_more : (words : List ℕ) (w : ℕ) → w < 2 ^ 32 → AreWords words → AreWords (words ++ w ∷ [])
+one_word_more [] w small are = (small, tt)
+one_word_more (v ∷ vs) w small are = (are.0, one_word_more vs w small are.1)
+
 -- one more word was read
 pub reads_word : (bytes words : List ℕ) (index w : ℕ) → w ≡ little_number 4 (drop (8 + 4 * index) bytes) → 8 + 4 * index + 4 ≤ length bytes → ((k : ℕ) → slice_index bytes k < 256) → take (4 * index) (drop 8 bytes) ≡ flat_map word_bytes words → take (4 * (index + 1)) (drop 8 bytes) ≡ flat_map word_bytes (words ++ w ∷ [])
 reads_word bytes words index w is within small so_far =
@@ -88,6 +92,12 @@ reads_word bytes words index w is within small so_far =
 pub slice_from : (bytes : List ℕ) (n : ℕ) → take (length bytes - n) (drop n bytes) ≡ drop n bytes
 slice_from bytes n = take_all (length bytes - n) (drop n bytes) (omega (arith, length-drop n bytes))
 
-pub words_of : (xs : List ℕ) → ((k : ℕ) → slice_index xs k < 4294967296) → AreWords xs
+pub words_of : (xs : List ℕ) → ((k : ℕ) → slice_index xs k < 2 ^ 32) → AreWords xs
 words_of [] small = tt
 words_of (x ∷ xs) small = (small 0, words_of xs (λ k. small (suc k)))
+
+-- bytes that begin an image of too many words are refused for no place
+pub long≢no_image : (bytes : List ℕ) (at : ℕ) → IsTooLong bytes → NotImage bytes at → ⊥
+long≢no_image bytes at long (Unlike magic below) = magic_ends_once bytes at long.magic magic below
+long≢no_image bytes at long (CutOff magic short is) = omega (arith, short, long.whole)
+long≢no_image bytes at long (OtherEnd magic whole fits other is) = omega (arith, fits, long.long)

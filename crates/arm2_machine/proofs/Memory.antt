@@ -1,5 +1,5 @@
 -- The memory of a loaded image: its words stand where they were put, and the arena is all zero.
-use Rattle.std.proofs.Common.{◌≡◌, ℕ, ◌+◌, ◌-◌, ◌*◌, ◌/◌, ◌%◌, ◌<◌, ◌≤◌, List, [], ◌∷◌, ◌++◌, length, take, drop, flat_map, slice_index, Some, None, true, false, ◌&&◌, nat_le, nat_lt, le-leb, lt-ltb, add-zero, if◌then◌else◌, refl, sym, ap, subst, ◌∙◌, arith, append_assoc, length-append}
+use Rattle.std.proofs.Common.{◌≡◌, ℕ, ◌+◌, ◌-◌, ◌*◌, ◌/◌, ◌%◌, ◌^◌, ◌<◌, ◌≤◌, List, [], ◌∷◌, ◌++◌, length, take, drop, flat_map, slice_index, Some, None, true, false, ◌&&◌, nat_le, nat_lt, le-leb, lt-ltb, add-zero, if◌then◌else◌, refl, sym, ap, subst, ◌∙◌, arith, append_assoc, length-append}
 use Rattle.std.proofs.lemmas.Grind.{common_steps}
 use Rattle.bv_io.specs.declared.memory_map.TheConstants.{ARENA_START, ARENA_BYTES, ARENA_END}
 use Rattle.bv_io.specs.Bytes.{zeros}
@@ -23,7 +23,7 @@ lengths start more rest words short is =
 
 pub loaded_ram_length : (words : List ℕ) → length words ≤ IMAGE_WORDS → length (loaded_ram words) ≡ RAM_END
 unfolding loaded_ram
-loaded_ram_length words short = lengths IMAGE_START 3932160 (15728640 - 4 * length words) words (omega arith) refl
+loaded_ram_length words short = lengths IMAGE_START ((RAM_END - IMAGE_START) / 4) (RAM_END - IMAGE_START - 4 * length words) words (omega arith) refl
 
 drop_front : (xs ys : List ℕ) (n : ℕ) → length xs ≡ n → drop n (xs ++ ys) ≡ ys
 drop_front xs ys n is = grind (arith, common_steps)
@@ -65,9 +65,6 @@ middle before part after rest =
     ∙ ap (take part) (append_assoc (zeros part) (zeros after) rest)
     ∙ take_front (zeros part) _ part (length-zeros part)
 
-arena_lies_below : ARENA_START + (ARENA_BYTES + (IMAGE_START - ARENA_END)) ≡ IMAGE_START
-arena_lies_below = refl
-
 -- the arena of a loaded image is all zero
 pub arena_of-loaded_ram : (words : List ℕ) → arena_of (loaded_ram words) ≡ zeros ARENA_BYTES
 unfolding loaded_ram arena_of
@@ -79,7 +76,7 @@ HasAt ram a [] = Unit {0}
 HasAt ram a (w ∷ ws) = (fetched ram a ≡ Some w) × HasAt ram (a + 4) ws
 
 -- the number of a word's four bytes
-pub word_from_bytes : (w : ℕ) → w < 4294967296 → w % 256 + 256 * (w / 256 % 256) + 65536 * (w / 65536 % 256) + 16777216 * (w / 16777216 % 256) ≡ w
+pub word_from_bytes : (w : ℕ) → w < 2 ^ 32 → w % 256 + 256 * (w / 256 % 256) + 65536 * (w / 65536 % 256) + 16777216 * (w / 16777216 % 256) ≡ w
 word_from_bytes w small = omega arith
 
 -- what stands behind so many bytes
@@ -118,7 +115,7 @@ unfolding read_word
 fetched-is ram a inside = ap (λ b. if b then Some (word_at board_space ram a) else None) (allowed a inside)
 
 -- a word is fetched where its bytes stand
-fetched_at : (front back : List ℕ) (a w : ℕ) → length front ≡ a → a < RAM_END → w < 4294967296 → fetched (front ++ (word_bytes w ++ back)) a ≡ Some w
+fetched_at : (front back : List ℕ) (a w : ℕ) → length front ≡ a → a < RAM_END → w < 2 ^ 32 → fetched (front ++ (word_bytes w ++ back)) a ≡ Some w
 fetched_at front back a w is inside small =
     let ram = front ++ (word_bytes w ++ back) in
     let first : slice_index ram a ≡ w % 256 = ap (slice_index ram) (sym (add-zero a)) ∙ slice_index-append front _ a 0 is in

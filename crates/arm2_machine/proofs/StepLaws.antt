@@ -17,6 +17,7 @@ use Rattle.arm2_cpu.specs.Step.{cpu_step}
 use Rattle.arm2_cpu.proofs.RegisterLaws.{holds-always}
 use Rattle.arm2_cpu.proofs.StepBasics.{Fetches}
 use Rattle.arm2_cpu.proofs.StepLaws.{step-mov_immediate, step-swi}
+use Rattle.arm2_machine.specs.declared.calls.TheConstants.{SWI_WRITE, SWI_END}
 use Rattle.arm2_machine.specs.declared.layout.TheConstants.{PAD, RETURN_ENTRY}
 use Rattle.arm2_machine.specs.Machine.{Machine, board_space, fetched}
 use Rattle.arm2_machine.specs.Step.{entered, with_low, called, instructed, board_step}
@@ -30,12 +31,12 @@ supervised m s svc is = (λ i. if not (svc i) && m.regs.pc == PAD then Goes (rec
 fetches : (m : Machine) (i : Instr) (w : ℕ) → m.regs.svc ≡ true → fetched m.ram m.regs.pc ≡ Some w → means w ≡ i → Fetches board_space m.regs m.ram i
 fetches m i w svc at is = record { word = w; fetched = (λ k. read_word board_space m.ram (not (svc k)) m.regs.pc) ∙ at; meaning = is }
 
-means-move : (register n : ℕ) → register < 13 → n < 256 → means (3818913792 + 4096 * register + n) ≡ Data 14 true MOV false 0 register n
+means-move : (register n : ℕ) → register < 13 → n < 256 → means (0xe3a00000 + 4096 * register + n) ≡ Data 14 true MOV false 0 register n
 unfolding word_of
 means-move register n is_register small =
     means_at _ _ (valid-data_immediate 14 13 0 register n _ (omega arith) (omega arith) (omega arith) (omega (arith, is_register)) (omega (arith, small))) (omega arith)
 
-means-call : (number : ℕ) → number < 16777216 → means (4009754624 + number) ≡ Swi 14 number
+means-call : (number : ℕ) → number < 16777216 → means (0xef000000 + number) ≡ Swi 14 number
 unfolding word_of
 means-call number small = means_at _ _ (valid-swi 14 number (omega arith) small) (omega arith)
 
@@ -45,22 +46,22 @@ unfolding with_banked
 low_register r n value low = rw (lt-ltb n 13 low) refl
 
 -- MOV Rd, #n
-pub step_move : (m : Machine) (register n : ℕ) → register < 13 → n < 256 → m.regs.svc ≡ true → fetched m.ram m.regs.pc ≡ Some (3818913792 + 4096 * register + n) → board_step m ≡ Goes (record m { regs = at_next (with_low m.regs register n) }) []
+pub step_move : (m : Machine) (register n : ℕ) → register < 13 → n < 256 → m.regs.svc ≡ true → fetched m.ram m.regs.pc ≡ Some (0xe3a00000 + 4096 * register + n) → board_step m ≡ Goes (record m { regs = at_next (with_low m.regs register n) }) []
 step_move m register n is_register small svc at =
     supervised m _ svc (step-mov_immediate board_space m.regs m.ram 14 0 register n (fetches m _ _ svc at (means-move register n is_register small)) (holds-always m.regs) (omega (arith, is_register)))
     ∙ ap (λ r. Goes (record m { regs = at_next r }) []) (ap (with_banked m.regs.svc m.regs register) (immediate_value-byte n small) ∙ low_register m.regs register n is_register)
 
 -- a call of the board
-step_call : (m : Machine) (number : ℕ) → number < 16777216 → m.regs.svc ≡ true → fetched m.ram m.regs.pc ≡ Some (4009754624 + number) → board_step m ≡ called (record m { regs = at_next m.regs }) m.regs.pc number
+step_call : (m : Machine) (number : ℕ) → number < 16777216 → m.regs.svc ≡ true → fetched m.ram m.regs.pc ≡ Some (0xef000000 + number) → board_step m ≡ called (record m { regs = at_next m.regs }) m.regs.pc number
 step_call m number small svc at = supervised m _ svc (step-swi board_space m.regs m.ram 14 number (fetches m _ _ svc at (means-call number small)) (holds-always m.regs))
 
 -- SWI &00 writes the low byte of R0
-pub step_write : (m : Machine) → m.regs.svc ≡ true → fetched m.ram m.regs.pc ≡ Some 4009754624 → board_step m ≡ Goes (record m { regs = at_next m.regs }) ((slice_index m.regs.low 0 % 256) ∷ [])
-step_write m svc at = step_call m 0 (omega arith) svc at
+pub step_write : (m : Machine) → m.regs.svc ≡ true → fetched m.ram m.regs.pc ≡ Some 0xef000000 → board_step m ≡ Goes (record m { regs = at_next m.regs }) ((slice_index m.regs.low 0 % 256) ∷ [])
+step_write m svc at = step_call m SWI_WRITE (omega arith) svc at
 
-called_end : (m : Machine) (at : ℕ) → m.regs.svc ≡ true → slice_index m.regs.low 0 ≡ 0 → called m at 17 ≡ Stops m [] (Reports Done)
+called_end : (m : Machine) (at : ℕ) → m.regs.svc ≡ true → slice_index m.regs.low 0 ≡ 0 → called m at SWI_END ≡ Stops m [] (Reports Done)
 called_end m at svc zero = rw svc (rw (eq-eqb (slice_index m.regs.low 0) 0 zero) refl)
 
 -- SWI &11 with R0 = 0 ends the run as done
-pub step_done : (m : Machine) → slice_index m.regs.low 0 ≡ 0 → m.regs.svc ≡ true → fetched m.ram m.regs.pc ≡ Some 4009754641 → board_step m ≡ Stops (record m { regs = at_next m.regs }) [] (Reports Done)
-step_done m zero svc at = step_call m 17 (omega arith) svc at ∙ called_end (record m { regs = at_next m.regs }) m.regs.pc svc zero
+pub step_done : (m : Machine) → slice_index m.regs.low 0 ≡ 0 → m.regs.svc ≡ true → fetched m.ram m.regs.pc ≡ Some 0xef000011 → board_step m ≡ Stops (record m { regs = at_next m.regs }) [] (Reports Done)
+step_done m zero svc at = step_call m SWI_END (omega arith) svc at ∙ called_end (record m { regs = at_next m.regs }) m.regs.pc svc zero

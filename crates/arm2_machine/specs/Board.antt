@@ -1,14 +1,15 @@
 -- What the board's calls say.
-use Rattle.std.specs.Prelude.{Bool, true, false, List, [], ◌∷◌, ℕ, refl}
+use Rattle.std.specs.Prelude.{◌≡◌, ℕ, ◌+◌, ◌-◌, ◌^◌, ◌≤◌, min, Bool, true, false, List, [], ◌∷◌, refl}
 use Rattle.std.specs.Coded.{Coded, code_by, coded×, coded_ℕ, coded_bool}
 use Rattle.bv_io.specs.declared.report.RunEnd.{RunEnd}
 use Rattle.bv_io.specs.declared.report.RunEnd.TheVariants as ends
-use Rattle.bv_io.specs.Runs.{Turn, Goes, Stops, End, Reports, Breaks, Progress, At, Ended}
+use Rattle.bv_io.specs.Runs.{Turn, Goes, Stops, End, Reports, Breaks, Progress, At, Ended, run}
 use Rattle.arm2_machine.specs.declared.step.Output.{Output}
 use Rattle.arm2_machine.specs.declared.step.Output.TheVariants as outputs
-use Rattle.arm2_machine.specs.declared.step.Happened.{Happened}
-use Rattle.arm2_machine.specs.declared.step.Happened.TheVariants as happened
+use Rattle.arm2_machine.specs.declared.step.StepOutcome.{StepOutcome}
+use Rattle.arm2_machine.specs.declared.step.StepOutcome.TheVariants as outcomes
 use Rattle.arm2_machine.specs.Machine.{Machine, machine_code}
+use Rattle.arm2_machine.specs.Step.{board_step}
 
 -- a board as its callers see it: its machine, the number of instructions made, and whether its run has ended
 pub record BoardState : Type 0 where
@@ -31,10 +32,10 @@ bytes_of (outputs.Byte byte) = byte ∷ []
 bytes_of outputs.NewLine = 10 ∷ 13 ∷ []
 
 -- a step by what it answers and the state that it leaves
-abbrev pub turn_of : Happened → Machine → Turn Machine End
-turn_of (happened.Went output) m = Goes m (bytes_of output)
-turn_of (happened.Over report) m = Stops m [] (Reports report)
-turn_of (happened.Broke kind address) m = Stops m [] (Breaks kind address)
+abbrev pub turn_of : StepOutcome → Machine → Turn Machine End
+turn_of (outcomes.Continued output) m = Goes m (bytes_of output)
+turn_of (outcomes.Over report) m = Stops m [] (Reports report)
+turn_of (outcomes.Broken kind address) m = Stops m [] (Breaks kind address)
 
 -- a run by its answer, the state that it leaves, and what it wrote
 abbrev pub progress_of : RunEnd → Machine → List ℕ → Progress Machine End
@@ -47,3 +48,12 @@ abbrev pub is_end : RunEnd → Bool
 is_end ends.Going = false
 is_end (ends.Over report) = true
 is_end (ends.Broken kind address) = true
+
+-- The board has made so many instructions, at most the bound, and counted each. They went on, so that its run has not come
+-- to an end of its own.
+pub record HasMade (bound : ℕ) (old new : BoardState) : Type 0 where
+  pub made : ℕ
+  pub out : List ℕ
+  pub within : made ≤ bound
+  pub stands : run board_step made old.machine [] ≡ At new.machine out
+  pub counted : new.steps ≡ min (old.steps + made) (2 ^ 64 - 1)

@@ -63,10 +63,10 @@ called m at number =
     else refused m at
 
 -- what an instruction's event comes to
-abbrev pub came : Machine → ℕ → CpuEvent → Turn Machine End
-came m at events.Ran = Goes m []
-came m at (events.Swi number) = called m at number
-came m at (events.Trap kind address) = trapped m kind address
+abbrev pub after_event : Machine → ℕ → CpuEvent → Turn Machine End
+after_event m at events.Ran = Goes m []
+after_event m at (events.Swi number) = called m at number
+after_event m at (events.Trap kind address) = trapped m kind address
 
 -- the machine with what an instruction left
 abbrev pub with_step : Machine → Stepped → Machine
@@ -74,7 +74,7 @@ with_step m s = record m { regs = s.regs; ram = s.bytes }
 
 -- one instruction of the processor
 abbrev pub instructed : Machine → Stepped → Turn Machine End
-instructed m s = came (with_step m s) m.regs.pc s.event
+instructed m s = after_event (with_step m s) m.regs.pc s.event
 
 -- user mode has come to the pad
 abbrev pub is_at_pad : Regs → Bool

@@ -1,8 +1,7 @@
 ghost use Rattle.std.specs.Prelude.{◌≡◌, ◌+◌, ◌-◌, ◌^◌, ◌%◌, ◌<◌, ◌≤◌, min, [], List, ℕ, false, true, length, IfOk, OnOk, OnErr};
-ghost use Rattle.bv_io.specs.Outcome.{IsPrefix};
 ghost use Rattle.bv_io.specs.Runs.{run, steps_made, written_by};
 ghost use Rattle.bv_io.specs.Shelf.{Rose, counted};
-ghost use Rattle.bv_io.specs.Sink.{with_bytes};
+ghost use Rattle.bv_io.specs.Sink.{with_bytes, WritesPart};
 ghost use Rattle.arm2_machine.specs.Machine.{loaded, arena_of};
 ghost use Rattle.arm2_machine.specs.Step.{board_step, called, called_by_user, entered, refused, reported, trapped, with_input};
 
@@ -10,7 +9,7 @@ use crate::calls::{self, SWI_CHARACTER, SWI_END, SWI_NEW_LINE, SWI_READ, SWI_WRI
 use crate::layout::{IMAGE_START, IMAGE_WORDS, PAD, RETURN_ENTRY, TRAP_ENTRY};
 use crate::output::write;
 use crate::ram::BoardRam;
-use crate::step::{Happened, Output};
+use crate::step::{Output, StepOutcome};
 use arm2_cpu::{CpuEvent, PC_END, Regs, step_cpu};
 use bv_io::{NoMemory, Report, RunEnd, Sink, SinkFault, Trap};
 use std::alloc::Global;
@@ -56,7 +55,7 @@ const FIRST_REGS: Regs = Regs {
 };
 
 impl Board {
-    ghost use Rattle.arm2_machine.specs.Board.{turn_of, progress_of, is_end};
+    ghost use Rattle.arm2_machine.specs.Board.{turn_of, progress_of, is_end, HasMade};
 
     /// The board at the start of an image of at most `IMAGE_WORDS` words, with this input.
     pub fn load(alloc: Global, words: &[u32], input: Vec<u8>) -> Result<Board, NoMemory>
@@ -108,22 +107,22 @@ impl Board {
     }
 
     /// Takes a trap: user mode goes to the supervisor, and the supervisor breaks the run.
-    fn trap(&mut self, kind: Trap, address: u32) -> Happened
+    fn trap(&mut self, kind: Trap, address: u32) -> StepOutcome
         ensures value { trapped self.old.machine kind address ≡ turn_of result self.new.machine }
         ensures closed { self.new.closed ≡ self.old.closed }
         ensures steps { self.new.steps ≡ self.old.steps }
     {
         if self.regs.svc {
-            return Happened::Broke { kind, address };
+            return StepOutcome::Broken { kind, address };
         }
         self.regs.low[0] = calls::trap_number(kind);
         self.regs.low[1] = address;
         self.enter(TRAP_ENTRY);
-        Happened::Went(Output::Nothing)
+        StepOutcome::Continued(Output::Nothing)
     }
 
     /// Takes the trap of a call that isn't there, whose instruction stands at the address.
-    fn refuse(&mut self, at: u32) -> Happened
+    fn refuse(&mut self, at: u32) -> StepOutcome
         requires aligned { at % 4 ≡ 0 }
         requires within { at < PC_END }
         ensures value { refused self.old.machine at ≡ turn_of result self.new.machine }
@@ -149,7 +148,7 @@ impl Board {
         }
     }
 
-    fn end(&mut self, at: u32, report: Option<Report>) -> Happened
+    fn end(&mut self, at: u32, report: Option<Report>) -> StepOutcome
         requires aligned { at % 4 ≡ 0 }
         requires within { at < PC_END }
         ensures value { reported self.old.machine at report ≡ turn_of result self.new.machine }
@@ -157,13 +156,13 @@ impl Board {
         ensures steps { self.new.steps ≡ self.old.steps }
     {
         match report {
-            Some(report) => Happened::Over(report),
+            Some(report) => StepOutcome::Over(report),
             None => self.refuse(at),
         }
     }
 
     /// Carries out a call that user mode alone has.
-    fn call_of_user(&mut self, at: u32, number: u32) -> Happened
+    fn call_of_user(&mut self, at: u32, number: u32) -> StepOutcome
         requires aligned { at % 4 ≡ 0 }
         requires within { at < PC_END }
         ensures value { called_by_user self.old.machine at number ≡ turn_of result self.new.machine }
@@ -171,14 +170,14 @@ impl Board {
         ensures steps { self.new.steps ≡ self.old.steps }
     {
         if (SWI_CHARACTER..SWI_CHARACTER + 256).contains(&number) {
-            Happened::Went(Output::Byte((number % 0x100) as u8))
+            StepOutcome::Continued(Output::Byte((number % 0x100) as u8))
         } else {
             self.refuse(at)
         }
     }
 
     /// Carries out the call with a number, whose instruction stands at the address.
-    fn call(&mut self, at: u32, number: u32) -> Happened
+    fn call(&mut self, at: u32, number: u32) -> StepOutcome
         requires aligned { at % 4 ≡ 0 }
         requires within { at < PC_END }
         ensures value { called self.old.machine at number ≡ turn_of result self.new.machine }
@@ -186,12 +185,12 @@ impl Board {
         ensures steps { self.new.steps ≡ self.old.steps }
     {
         match number {
-            SWI_WRITE => Happened::Went(Output::Byte((self.regs.low[0] % 0x100) as u8)),
-            SWI_NEW_LINE => Happened::Went(Output::NewLine),
+            SWI_WRITE => StepOutcome::Continued(Output::Byte((self.regs.low[0] % 0x100) as u8)),
+            SWI_NEW_LINE => StepOutcome::Continued(Output::NewLine),
             _ if !self.regs.svc => self.call_of_user(at, number),
             SWI_READ => {
                 self.read_input();
-                Happened::Went(Output::Nothing)
+                StepOutcome::Continued(Output::Nothing)
             }
             SWI_END => {
                 let report = calls::report(&self.regs.low);
@@ -203,7 +202,7 @@ impl Board {
 
     #[tactic(auto, unfolding(crate::specs::Step::board_step))]
     /// Makes one instruction, and counts it.
-    fn step(&mut self) -> Happened
+    fn step(&mut self) -> StepOutcome
         ensures value { board_step self.old.machine ≡ turn_of result self.new.machine }
         ensures closed { self.new.closed ≡ self.old.closed }
         ensures steps { self.new.steps ≡ counted self.old.steps }
@@ -211,11 +210,11 @@ impl Board {
         self.steps = self.steps.saturating_add(1);
         if !self.regs.svc && self.regs.pc == PAD {
             self.enter(RETURN_ENTRY);
-            return Happened::Went(Output::Nothing);
+            return StepOutcome::Continued(Output::Nothing);
         }
         let at = self.regs.pc;
         match step_cpu(&mut self.regs, &mut self.ram) {
-            CpuEvent::Ran => Happened::Went(Output::Nothing),
+            CpuEvent::Ran => StepOutcome::Continued(Output::Nothing),
             CpuEvent::Swi(number) => self.call(at, number),
             CpuEvent::Trap { kind, address } => self.trap(kind, address),
         }
@@ -225,17 +224,19 @@ impl Board {
     /// `RunEnd::Going` the run may go on by another call; after any other answer the board is closed.
     pub fn run<O: Sink>(&mut self, bound: u64, out: &mut O) -> Result<RunEnd, SinkFault>
         requires { self.old.closed ≡ false }
-        ensures ok { IfOk result (λ end. (bytes : List ℕ)
-            × (run board_step bound self.old.machine [] ≡ progress_of end self.new.machine bytes)
-            × (O.written out.new ≡ with_bytes (O.written out.old) bytes)) }
+        ensures ends { IfOk result (λ end. run board_step bound self.old.machine []
+            ≡ progress_of end self.new.machine (written_by (run board_step bound self.old.machine []))) }
+        ensures written { OnOk result
+            (O.written out.new ≡ with_bytes (O.written out.old) (written_by (run board_step bound self.old.machine []))) }
         ensures closed { IfOk result (λ end. self.new.closed ≡ is_end end) }
         ensures steps { OnOk result
             (self.new.steps ≡ min (self.old.steps + steps_made board_step bound self.old.machine) (2 ^ 64 - 1)) }
 
-        // After a fault some first part of the run's output was written.
-        ensures fault { OnErr result ((bytes : List ℕ)
-            × IsPrefix bytes (written_by (run board_step bound self.old.machine []))
-            × (O.written out.new ≡ with_bytes (O.written out.old) bytes)) }
+        // After a fault some first part of the run's output was written, and the board stands behind the instruction whose
+        // output it was.
+        ensures fault { OnErr result
+            (WritesPart (O.written out.old) (written_by (run board_step bound self.old.machine [])) (O.written out.new)) }
+        ensures fault_made { OnErr result (HasMade bound self.old self.new) }
         ensures fault_closes { OnErr result (self.new.closed ≡ true) }
         ensures cause { OnErr result (Rose (O.faults out.old) (O.faults out.new)) }
         ensures faults { O.faults out.old ≤ O.faults out.new }
@@ -244,17 +245,17 @@ impl Board {
         let _ = &self.steps;
         'steps: for _ in 0..bound {
             match self.step() {
-                Happened::Went(output) => {
+                StepOutcome::Continued(output) => {
                     if let Err(fault) = write(out, output) {
                         self.closed = true;
                         return Err(fault);
                     }
                 }
-                Happened::Over(report) => {
+                StepOutcome::Over(report) => {
                     self.closed = true;
                     return Ok(RunEnd::Over(report));
                 }
-                Happened::Broke { kind, address } => {
+                StepOutcome::Broken { kind, address } => {
                     self.closed = true;
                     return Ok(RunEnd::Broken { kind, address });
                 }

@@ -1,5 +1,6 @@
 ghost use Rattle.std.specs.Prelude.{◌≡◌, ◌≤◌, ◌<◌, ◌↔◌, IsTrue, length, slice_get, IfOk, IfErr};
 ghost use Rattle.arm2_machine.specs.Image.{ImageOf, HasOneImage, ExplainsImage, MagicEnds, IsWhole};
+ghost use Rattle.arm2_machine.specs.Words.{AreWords};
 
 use crate::layout::IMAGE_WORDS;
 use crate::words::{push_word, push_words};
@@ -110,6 +111,7 @@ fn check_image(bytes: &[u8]) -> Result<usize, ImageError>
 /// The words of an image file.
 pub fn read_image(alloc: Global, bytes: &[u8]) -> Result<Vec<u32>, ImageError>
     ensures ok { IfOk result (λ words. ImageOf bytes.now words.items) }
+    ensures are_words { IfOk result (λ words. AreWords words.items) }
     ensures err { IfErr result (ExplainsImage bytes.now) }
 {
     let count = check_image(bytes)?;

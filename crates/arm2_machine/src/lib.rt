@@ -4,6 +4,7 @@
 mod board;
 mod calls;
 mod image;
+mod laws;
 mod layout;
 mod output;
 mod ram;
@@ -11,5 +12,7 @@ mod step;
 mod words;
 
 pub use board::Board;
+pub use calls::{SWI_CHARACTER, SWI_END, SWI_NEW_LINE, SWI_READ, SWI_WRITE};
 pub use image::{ImageError, read_image, write_image};
+pub use laws::calls_add_up;
 pub use layout::{IMAGE_START, IMAGE_WORDS, PAD, RAM_END, RETURN_ENTRY, TRAP_ENTRY};

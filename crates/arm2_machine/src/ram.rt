@@ -2,7 +2,7 @@ ghost use Rattle.std.specs.Prelude.{◌≡◌, ◌≤◌, length, IfOk};
 ghost use Rattle.arm2_machine.specs.Machine.{arena_of, board_space, loaded_ram};
 
 use crate::layout::{IMAGE_START, IMAGE_WORDS, RAM_END};
-use crate::words::push_words;
+use crate::words::words_to_bytes;
 use arm2_cpu::Memory;
 use bv_io::{ARENA_END, ARENA_START, NoMemory};
 use bv_ram::Ram;
@@ -44,8 +44,7 @@ impl BoardRam {
         requires { length words.now ≤ IMAGE_WORDS }
         ensures { IfOk result (λ ram. ram ≡ loaded_ram words.now) }
     {
-        let mut bytes = Vec::new(alloc);
-        push_words(&mut bytes, words)?;
+        let bytes = words_to_bytes(alloc, words)?;
         let mut ram = Ram::new(alloc, RAM_END)?;
         ram.copy_in(IMAGE_START, bytes.as_slice());
         Ok(BoardRam { ram })

@@ -11,9 +11,11 @@ pub enum Output {
 
 /// What became of an instruction.
 #[derive(Clone, Copy, Debug, PartialEq, Eq)]
-pub enum Happened {
-    /// The run goes on.
-    Went(Output),
+pub enum StepOutcome {
+    /// The run goes on behind this output.
+    Continued(Output),
+    /// The run ended with a report.
     Over(Report),
-    Broke { kind: Trap, address: u32 },
+    /// The supervisor trapped, at the address.
+    Broken { kind: Trap, address: u32 },
 }

@@ -1,8 +1,9 @@
-ghost use Rattle.std.specs.Prelude.{◌≡◌, ◌++◌, flat_map, OnOk};
+ghost use Rattle.std.specs.Prelude.{◌≡◌, ◌≤◌, ◌++◌, length, flat_map, IfOk, OnOk};
 ghost use Rattle.arm2_machine.specs.Words.{word_bytes};
 
+use crate::layout::IMAGE_WORDS;
 use byteorder::{ByteOrder, LittleEndian};
-use std::alloc::AllocError;
+use std::alloc::{AllocError, Global};
 
 /// Adds a word's four bytes, the lowest first.
 pub fn push_word(bytes: &mut Vec<u8>, word: u32) -> Result<(), AllocError>
@@ -21,4 +22,14 @@ pub fn push_words(bytes: &mut Vec<u8>, words: &[u32]) -> Result<(), AllocError>
         push_word(bytes, *word)?;
     }
     Ok(())
+}
+
+/// The bytes of at most `IMAGE_WORDS` words, one word after the other.
+pub fn words_to_bytes(alloc: Global, words: &[u32]) -> Result<Vec<u8>, AllocError>
+    requires { length words.now ≤ IMAGE_WORDS }
+    ensures { IfOk result (λ bytes. bytes.items ≡ flat_map word_bytes words.now) }
+{
+    let mut bytes = Vec::with_capacity(alloc, 4 * words.len())?;
+    push_words(&mut bytes, words)?;
+    Ok(bytes)
 }

@@ -2,7 +2,7 @@
 #![tactic(auto)]
 
 use basv_top::{Status, basv};
-use bv_io::{DiskShelf, StdSink};
+use bv_io::{DiskShelf, Sink, StdSink};
 use std::env;
 use std::io::{self, ErrorKind};
 use std::process::ExitCode;
@@ -17,14 +17,18 @@ fn words(rt: &HostRuntime) -> io::Result<Vec<String>> {
 }
 
 fn run(rt: HostRuntime) -> Status {
+    let mut err = StdSink::err(rt);
     let words = match words(&rt) {
         Ok(words) => words,
-        Err(error) if error.kind() == ErrorKind::OutOfMemory => return Status::NoMemory,
-        Err(_) => return Status::Usage,
+        Err(error) if error.kind() == ErrorKind::OutOfMemory => {
+            let _ = err.write(b"no memory\n");
+            return Status::NoMemory;
+        }
+        // Words that are no text are no command.
+        Err(_) => Vec::new(rt.alloc()),
     };
     let mut shelf = DiskShelf::new(rt);
     let mut out = StdSink::out(rt);
-    let mut err = StdSink::err(rt);
     basv(rt.alloc(), words.as_slice(), &mut shelf, &mut out, &mut err)
 }
 

@@ -5,12 +5,12 @@ use Rattle.bv_io.specs.declared.report.Report.TheVariants as reports
 use Rattle.bv_io.specs.declared.report.RunEnd.TheVariants as ends
 use Rattle.bv_io.specs.Shelf.{Tells, TellsMore}
 use Rattle.basv_top.specs.declared.ending.Ending.{Ending as Told}
-use Rattle.basv_top.specs.declared.refusal.Refusal.{Refusal}
-use Rattle.basv_top.specs.declared.refusal.Refusal.TheVariants as refusals
-use Rattle.basv_top.specs.declared.refusal.TheConstants.{FILE_BYTES, LONG_FILE}
+use Rattle.bas_compile.specs.declared.refusal.Refusal.{Refusal}
+use Rattle.bas_compile.specs.declared.refusal.Refusal.TheVariants as refusals
+use Rattle.bas_compile.specs.declared.refusal.TheConstants.{FILE_BYTES, LONG_FILE}
 use Rattle.basv_top.specs.declared.status.Status.TheVariants as statuses
 use Rattle.basv_top.specs.Ending.{Ending, Done, Usage, Refused, ReadFault, WriteFault, NotImage, Ran, told, status_of, text_of, line_of, ended}
-use Rattle.basv_top.specs.Refused as refused
+use Rattle.bas_compile.specs.Refused as refused
 use Rattle.basv_top.specs.Seen.{SeenShelf, SeenSink}
 use Rattle.basv_top.specs.Top.{Unlistable, GivesRefused, NotTaken, ExplainsCompile, ExplainsList}
 

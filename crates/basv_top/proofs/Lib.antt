@@ -1,11 +1,4 @@
-pub mod Texts
-pub mod Programs
-pub mod Readings
-pub mod CodeAt
-pub mod Simulation
-pub mod Compiled
 pub mod Causes
-pub mod Verdicts
 pub mod Written
 pub mod Endings
 pub mod Runs

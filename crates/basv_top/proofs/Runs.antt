@@ -1,26 +1,26 @@
 -- Why `run` ends as it does, and what it writes.
-use Rattle.std.proofs.Common.{◌≡◌, ◌⊎◌, inl, inr, ℕ, zero, suc, ◌*◌, ◌<◌, ◌≤◌, List, [], ◌∷◌, length, take, flat_map, slice_get, Option, Some, None, Result, Ok, Err, IsErrAnd, refl, sym, ap, subst, ◌∙◌, arith}
-use Rattle.std.proofs.Math.Seq.{take-append_seam}
+use Rattle.std.proofs.Common.{◌≡◌, ◌⊎◌, inl, inr, ℕ, ◌<◌, ◌≤◌, List, [], length, Option, Some, None, Result, Ok, Err, IsErrAnd, refl, sym, ap, subst, ◌∙◌, arith}
 use Rattle.bv_io.specs.declared.report.Report.TheVariants as reports
 use Rattle.bv_io.specs.declared.report.RunEnd.{RunEnd}
 use Rattle.bv_io.specs.declared.report.RunEnd.TheVariants as ends
-use Rattle.bv_io.specs.Outcome.{IsPrefix, output_of}
-use Rattle.bv_io.specs.Runs.{Progress, At, Ended, End, Reports, Breaks, run, written_by, shown}
+use Rattle.bv_io.specs.Outcome.{output_of}
+use Rattle.bv_io.specs.Runs.{run, written_by, shown}
 use Rattle.bv_io.specs.Shelf.{Rose, Tells, TellsMore}
 use Rattle.bv_io.specs.Sink.{with_bytes, WritesPart}
+use Rattle.bv_io.proofs.Agreement.{output-shown}
 use Rattle.arm2_machine.specs.declared.image.ImageError.{ImageError}
 use Rattle.arm2_machine.specs.declared.image.ImageError.TheVariants as image_errors
-use Rattle.arm2_machine.specs.declared.image.TheConstants.{MAGIC}
-use Rattle.arm2_machine.specs.Words.{word_bytes, AreWords}
-use Rattle.arm2_machine.specs.Image.{ImageOf, IsTooLong, NotImage, Unlike, CutOff, OtherEnd, ExplainsImage}
+use Rattle.arm2_machine.specs.Words.{AreWords}
+use Rattle.arm2_machine.specs.Image.{ImageOf, IsTooLong, NotImage, ExplainsImage}
 use Rattle.arm2_machine.specs.Board.{progress_of}
 use Rattle.arm2_machine.specs.Machine.{loaded}
 use Rattle.arm2_machine.specs.Step.{board_step}
-use Rattle.arm2_machine.proofs.Images.{one_image}
+use Rattle.arm2_machine.proofs.Images.{one_image, long≢no_image}
+use Rattle.arm2_machine.proofs.Memory.{length-flat_map-word_bytes}
 use Rattle.basv_top.specs.declared.ending.Ending.{Ending as Told}
-use Rattle.basv_top.specs.declared.refusal.Refusal.{Refusal}
-use Rattle.basv_top.specs.declared.refusal.Refusal.TheVariants as refusals
-use Rattle.basv_top.specs.declared.refusal.TheConstants.{IMAGE_BYTES, LONG_IMAGE}
+use Rattle.bas_compile.specs.declared.refusal.Refusal.{Refusal}
+use Rattle.bas_compile.specs.declared.refusal.Refusal.TheVariants as refusals
+use Rattle.basv_top.specs.declared.limits.TheConstants.{IMAGE_BYTES, LONG_IMAGE}
 use Rattle.basv_top.specs.declared.status.Status.{Status}
 use Rattle.basv_top.specs.declared.status.Status.TheVariants as statuses
 use Rattle.basv_top.specs.declared.top.TheConstants.{GREATEST_BOUND}
@@ -32,17 +32,6 @@ use Rattle.basv_top.specs.Top.{NotTaken, GivesImage, image_run, end_of, HasRun, 
 use Rattle.basv_top.proofs.Endings.{too_long}
 use Rattle.basv_top.proofs.Causes.{told_is, can_read, silent_unless_listed}
 
--- a text that was written up to a prefix was written in part
-pub part_of_prefix : (old new : Option (List ℕ)) (bytes whole : List ℕ) → IsPrefix bytes whole → new ≡ with_bytes old bytes → WritesPart old whole new
-part_of_prefix old new bytes whole prefix writes =
-    (length bytes, writes ∙ ap (λ l. with_bytes old l) (sym (ap (take (length bytes)) prefix.1 ∙ take-append_seam bytes prefix.0)))
-
--- what is shown of a run has the run's output
-pub output_shown : {S : Type 0} (arena : S → List ℕ) (p : Progress S End) → output_of (shown arena p) ≡ written_by p
-output_shown arena (At state out) = refl
-output_shown arena (Ended state out (Reports report)) = refl
-output_shown arena (Ended state out (Breaks kind address)) = refl
-
 -- a run that ended so shows that end, and has written its bytes
 end_shown : (arena : _) (p : _) (end : RunEnd) (machine : _) (bytes : List ℕ) → p ≡ progress_of end machine bytes → end_of (shown arena p) ≡ end
 end_shown arena p end machine bytes goes = ap (λ q. end_of (shown arena q)) goes ∙ of_end end
@@ -52,34 +41,11 @@ end_shown arena p end machine bytes goes = ap (λ q. end_of (shown arena q)) goe
     of_end ends.Going = refl
     of_end (ends.Broken kind address) = refl
 
-written_so : (end : RunEnd) (machine : _) (bytes : List ℕ) → written_by (progress_of end machine bytes) ≡ bytes
-written_so (ends.Over report) machine bytes = refl
-written_so ends.Going machine bytes = refl
-written_so (ends.Broken kind address) machine bytes = refl
-
-words_length : (words : List ℕ) → length (flat_map word_bytes words) ≡ 4 * length words
-words_length [] = refl
-words_length (w ∷ words) = omega (arith, words_length words)
-
-slice_get-take : (xs : List ℕ) (n at : ℕ) → at < n → slice_get (take n xs) at ≡ slice_get xs at
-slice_get-take [] zero at below = absurd (omega (arith, below))
-slice_get-take [] (suc n) at below = refl
-slice_get-take (x ∷ xs) zero at below = absurd (omega (arith, below))
-slice_get-take (x ∷ xs) (suc n) zero below = refl
-slice_get-take (x ∷ xs) (suc n) (suc at) below = slice_get-take xs n at (omega (arith, below))
-
--- bytes that begin an image of too many words are no image nowhere else
-long≢no_image : (bytes : List ℕ) (at : ℕ) → IsTooLong bytes → NotImage bytes at → ⊥
-long≢no_image bytes at long (Unlike magic below) =
-    magic.differs below (sym (slice_get-take bytes 4 at below) ∙ ap (λ l. slice_get l at) long.magic.same ∙ slice_get-take MAGIC 4 at below)
-long≢no_image bytes at long (CutOff magic short is) = omega (arith, short, long.whole)
-long≢no_image bytes at long (OtherEnd magic whole fits other is) = omega (arith, fits, long.long)
-
 -- an image is refused for nothing
 image≢unrunnable : (bytes words : List ℕ) (verdict : Ending) → AreWords words → ImageOf bytes words → Unrunnable bytes verdict → ⊥
 image≢unrunnable bytes words endings.Done are is why = why
 image≢unrunnable bytes words endings.Usage are is why = why
-image≢unrunnable bytes words (endings.Refused reason) are is (inl long, _) = omega (arith, long, ap length is.spelled, words_length words, is.short)
+image≢unrunnable bytes words (endings.Refused reason) are is (inl long, _) = omega (arith, long, ap length is.spelled, length-flat_map-word_bytes words, is.short)
 image≢unrunnable bytes words (endings.Refused reason) are is (inr long, _) = (one_image bytes words are is).fits long
 image≢unrunnable bytes words (endings.ReadFault name) are is why = why
 image≢unrunnable bytes words endings.WriteFault are is why = why
@@ -115,21 +81,21 @@ unrunnable_once bytes (endings.NotImage at) (endings.NotImage place) why other =
 
 -- a run of words from where the board was loaded
 module _ (out_before out_after : SeenSink) (words : List ℕ) (machine : _) (is_loaded : machine ≡ loaded words []) where
+  written_is_output : written_by (run board_step GREATEST_BOUND machine []) ≡ output_of (image_run words)
+  written_is_output = ap (λ m. written_by (run board_step GREATEST_BOUND m [])) is_loaded ∙ sym (output-shown _ (run board_step GREATEST_BOUND (loaded words []) []))
+
   -- it came to its end or its bound
-  pub explained_ended : (end : RunEnd) (last : _) → ((bytes : List ℕ) × (run board_step GREATEST_BOUND machine [] ≡ progress_of end last bytes) × (out_after.written ≡ with_bytes out_before.written bytes)) → ExplainsWords words out_before out_after (endings.Ran end GREATEST_BOUND)
-  explained_ended end last (bytes, goes, writes) =
-      let comes : run board_step GREATEST_BOUND (loaded words []) [] ≡ progress_of end last bytes = ap (λ m. run board_step GREATEST_BOUND m []) (sym is_loaded) ∙ goes in
-      let ends_so : end_of (image_run words) ≡ end = end_shown _ (run board_step GREATEST_BOUND (loaded words []) []) end last bytes comes in
-      let output : output_of (image_run words) ≡ bytes = output_shown _ (run board_step GREATEST_BOUND (loaded words []) []) ∙ ap written_by comes ∙ written_so end last bytes in
-      (sym ends_so, refl, writes ∙ ap (λ b. with_bytes out_before.written b) (sym output))
+  pub explained_ended : (end : RunEnd) (last : _) → run board_step GREATEST_BOUND machine [] ≡ progress_of end last (written_by (run board_step GREATEST_BOUND machine [])) → out_after.written ≡ with_bytes out_before.written (written_by (run board_step GREATEST_BOUND machine [])) → ExplainsWords words out_before out_after (endings.Ran end GREATEST_BOUND)
+  explained_ended end last goes writes =
+      let comes = ap (λ m. run board_step GREATEST_BOUND m []) (sym is_loaded) ∙ goes in
+      let ends_so : end_of (image_run words) ≡ end = end_shown _ (run board_step GREATEST_BOUND (loaded words []) []) end last _ comes in
+      (sym ends_so, refl, writes ∙ ap (λ b. with_bytes out_before.written b) written_is_output)
 
   -- the output did not take what it wrote
-  pub explained_fault : (answer : Result RunEnd Told) → ((bytes : List ℕ) × IsPrefix bytes (written_by (run board_step GREATEST_BOUND machine [])) × (out_after.written ≡ with_bytes out_before.written bytes)) → Rose out_before.faults out_after.faults → IsErrAnd answer (λ e. told e ≡ endings.WriteFault) → ExplainsWords words out_before out_after (ended_run answer GREATEST_BOUND)
+  pub explained_fault : (answer : Result RunEnd Told) → WritesPart out_before.written (written_by (run board_step GREATEST_BOUND machine [])) out_after.written → Rose out_before.faults out_after.faults → IsErrAnd answer (λ e. told e ≡ endings.WriteFault) → ExplainsWords words out_before out_after (ended_run answer GREATEST_BOUND)
   explained_fault (Ok _) part rose is = absurd is
-  explained_fault (Err e) (bytes, prefix, writes) rose is =
-      let output : written_by (run board_step GREATEST_BOUND machine []) ≡ output_of (image_run words) =
-      ap (λ m. written_by (run board_step GREATEST_BOUND m [])) is_loaded ∙ sym (output_shown _ (run board_step GREATEST_BOUND (loaded words []) [])) in
-      subst (ExplainsWords words out_before out_after) (sym is) (part_of_prefix _ _ bytes _ (subst (IsPrefix bytes) output prefix) writes, rose)
+  explained_fault (Err e) part rose is =
+      subst (ExplainsWords words out_before out_after) (sym is) (subst (λ b. WritesPart out_before.written b out_after.written) written_is_output part, rose)
 
 module _ (before after : SeenShelf) (image : List ℕ) where
   -- a refusal before the first byte is written

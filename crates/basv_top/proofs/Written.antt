@@ -1,20 +1,8 @@
 -- Writing a text in pieces.
-use Rattle.std.proofs.Common.{◌≡◌, ℕ, ◌+◌, ◌<◌, ◌≤◌, List, [], ◌++◌, length, take, drop, flat_map, get_or, Option, Bor, sym, ap, ◌∙◌, append_assoc, append-nil, take-append-drop}
-use Rattle.std.proofs.Math.Seq.{take-append-add, take-append_seam}
-use Rattle.bv_io.specs.Outcome.{IsPrefix}
+use Rattle.std.proofs.Common.{◌≡◌, ℕ, ◌+◌, ◌<◌, ◌≤◌, List, [], ◌++◌, length, drop, flat_map, get_or, Option, Bor, sym, ap, ◌∙◌, append_assoc, append-nil}
 use Rattle.bv_io.specs.Sink.{with_bytes, WritesPart}
-use Rattle.bv_io.proofs.Loops.{with_bytes-nil, with_bytes-append}
+use Rattle.bv_io.proofs.Loops.{with_bytes-append, part_of_piece}
 use Rattle.std.proofs.lemmas.List.{drop_more, drop_all}
-
--- a first part of a piece, behind the pieces before it, is a first part of the whole
-pub part_of_piece : (old written after : Option (List ℕ)) (done piece whole : List ℕ) → written ≡ with_bytes old done → IsPrefix (done ++ piece) whole → WritesPart written piece after → WritesPart old whole after
-part_of_piece old written after done piece whole so prefix part =
-    let front = take part.0 piece in
-    let split : whole ≡ done ++ (front ++ (drop part.0 piece ++ prefix.0)) =
-    prefix.1 ∙ append_assoc done piece prefix.0 ∙ ap (λ p. done ++ (p ++ prefix.0)) (sym (take-append-drop part.0 piece)) ∙ ap (λ l. done ++ l) (append_assoc front _ _) in
-    let taken : take (length done + length front) whole ≡ done ++ front =
-    ap (λ l. take (length done + length front) l) split ∙ take-append-add done _ (length front) ∙ ap (λ l. done ++ l) (take-append_seam front _) in
-    (length done + length front, part.1 ∙ ap (λ w. with_bytes w front) so ∙ with_bytes-append old done front ∙ ap (λ l. with_bytes old l) (sym taken))
 
 -- The pieces before a place were written, and with those from there on they are the whole text.
 pub record WritesPieces (old written : Option (List ℕ)) (pieces : List (Bor (List ℕ))) (place : ℕ) (whole : List ℕ) : Type 0 where
@@ -26,9 +14,6 @@ pub record WritesPieces (old written : Option (List ℕ)) (pieces : List (Bor (L
 next_piece : (pieces : List (Bor (List ℕ))) (place : ℕ) (d : Bor (List ℕ)) (done : List ℕ) → place < length pieces → done ++ flat_map (λ piece. piece.now) (drop place pieces) ≡ (done ++ (get_or pieces place d).now) ++ flat_map (λ piece. piece.now) (drop (place + 1) pieces)
 next_piece pieces place d done inside =
     ap (λ l. done ++ flat_map (λ piece. piece.now) l) (drop_more pieces place d inside) ∙ sym (append_assoc done _ _)
-
-pub pieces_start : (old : Option (List ℕ)) (pieces : List (Bor (List ℕ))) (whole : List ℕ) → flat_map (λ piece. piece.now) pieces ≡ whole → WritesPieces old old pieces 0 whole
-pieces_start old pieces whole is = record { done = []; is_written = sym (with_bytes-nil old); rest = is }
 
 -- a piece was written
 pub piece_written : (old written after : Option (List ℕ)) (pieces : List (Bor (List ℕ))) (place : ℕ) (d : Bor (List ℕ)) (whole piece : List ℕ) → place < length pieces → piece ≡ (get_or pieces place d).now → WritesPieces old written pieces place whole → after ≡ with_bytes written piece → WritesPieces old after pieces (place + 1) whole

@@ -1,9 +1,10 @@
 -- How the program ends, with which status, and what it then says on the error output. This project's own.
-use Rattle.std.specs.Prelude.{ℕ, ◌+◌, ◌/◌, ◌%◌, ◌^◌, true, List, [], ◌∷◌, ◌++◌, map, Result, Ok, Err, codes, decimal}
-use Rattle.std.specs.Fmt.{signed_decimal, digit_glyph}
+use Rattle.std.specs.Prelude.{ℕ, ◌+◌, ◌/◌, ◌%◌, ◌^◌, List, [], ◌∷◌, ◌++◌, map, Result, Ok, Err, codes, decimal}
+use Rattle.std.specs.Fmt.{signed_decimal}
 use Rattle.arm2_machine.specs.declared.image.ImageError.{ImageError}
 use Rattle.arm2_machine.specs.declared.image.ImageError.TheVariants as image_errors
 use Rattle.arm2_machine.specs.declared.layout.TheConstants.{IMAGE_WORDS}
+use Rattle.bv_num.specs.Digits.{digit_byte}
 use Rattle.bv_io.specs.declared.report.Report.{Report}
 use Rattle.bv_io.specs.declared.report.Report.TheVariants as reports
 use Rattle.bv_io.specs.declared.report.RunEnd.{RunEnd}
@@ -16,10 +17,10 @@ use Rattle.bv_io.specs.declared.shelf.PutError.{PutError}
 use Rattle.bv_io.specs.declared.shelf.PutError.TheVariants as put_errors
 use Rattle.basv_top.specs.declared.ending.Ending.{Ending as Told}
 use Rattle.basv_top.specs.declared.ending.Ending.TheVariants as tells
-use Rattle.basv_top.specs.declared.refusal.Refusal.{Refusal}
-use Rattle.basv_top.specs.declared.refusal.Refusal.TheVariants as refusals
-use Rattle.basv_top.specs.declared.refusal.Which.{Which}
-use Rattle.basv_top.specs.declared.refusal.Which.TheVariants as limits
+use Rattle.bas_compile.specs.declared.refusal.Refusal.{Refusal}
+use Rattle.bas_compile.specs.declared.refusal.Refusal.TheVariants as refusals
+use Rattle.bas_compile.specs.declared.refusal.Which.{Which}
+use Rattle.bas_compile.specs.declared.refusal.Which.TheVariants as limits
 use Rattle.basv_top.specs.declared.report.Message.{Message}
 use Rattle.basv_top.specs.declared.status.Status.{Status}
 use Rattle.basv_top.specs.declared.status.Status.TheVariants as statuses
@@ -123,7 +124,7 @@ trap_word traps.Swi = codes "swi"
 
 -- the eight hexadecimal digits of an address, the highest first, in upper case
 abbrev pub address_digits : ℕ → List ℕ
-address_digits address = map (λ place. digit_glyph true (address / 16 ^ place % 16)) (7 ∷ 6 ∷ 5 ∷ 4 ∷ 3 ∷ 2 ∷ 1 ∷ 0 ∷ [])
+address_digits address = map (λ place. digit_byte (address / 16 ^ place % 16)) (7 ∷ 6 ∷ 5 ∷ 4 ∷ 3 ∷ 2 ∷ 1 ∷ 0 ∷ [])
 
 -- what is said of a trap, with its address
 abbrev pub trap_text : Trap → ℕ → List ℕ

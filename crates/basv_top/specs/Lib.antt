@@ -1,12 +1,6 @@
-pub mod Code
 pub mod Command
-pub mod Correct
 pub mod Ending
-pub mod Grammar
 pub mod InMemory
-pub mod Meaning
 pub mod Meant
-pub mod Parsing
-pub mod Refused
 pub mod Seen
 pub mod Top

@@ -12,18 +12,19 @@ use Rattle.arm2_machine.specs.Words.{AreWords}
 use Rattle.arm2_machine.specs.Image as images
 use Rattle.arm2_machine.specs.Image.{ImageOf, IsTooLong}
 use Rattle.arm2_machine.specs.Step.{board_run}
-use Rattle.basv_top.specs.declared.item.ProgramLine.{ProgramLine}
-use Rattle.basv_top.specs.declared.refusal.Refusal.{Refusal}
-use Rattle.basv_top.specs.declared.refusal.Refusal.TheVariants as refusals
-use Rattle.basv_top.specs.declared.refusal.TheConstants.{FILE_BYTES, IMAGE_BYTES}
+use Rattle.bas_compile.specs.declared.item.ProgramLine.{ProgramLine}
+use Rattle.bas_compile.specs.declared.refusal.Refusal.{Refusal}
+use Rattle.bas_compile.specs.declared.refusal.Refusal.TheVariants as refusals
+use Rattle.bas_compile.specs.declared.refusal.TheConstants.{FILE_BYTES}
+use Rattle.basv_top.specs.declared.limits.TheConstants.{IMAGE_BYTES}
 use Rattle.basv_top.specs.declared.status.Status.{Status}
 use Rattle.basv_top.specs.declared.status.Status.TheVariants as statuses
 use Rattle.basv_top.specs.declared.top.TheConstants.{GREATEST_BOUND}
 use Rattle.basv_top.specs.Command.{Command, Listing, Compile, Run}
-use Rattle.basv_top.specs.Correct.{CompilesTo}
+use Rattle.bas_compile.specs.Correct.{CompilesTo}
 use Rattle.basv_top.specs.Ending.{Ending, Done, Usage, Refused, ReadFault, WriteFault, NotImage, Ran, end_status, status_of, line_of, too_many_words}
-use Rattle.basv_top.specs.Grammar.{Accepted}
-use Rattle.basv_top.specs.Refused as refused
+use Rattle.bas_compile.specs.Grammar.{Accepted}
+use Rattle.bas_compile.specs.Refused as refused
 use Rattle.basv_top.specs.Seen.{SeenShelf, SeenSink, Silent, Writes}
 
 -- The shelf gave bytes under FILE, and then holds contents under IMAGE that these bytes compile to.

@@ -34,9 +34,11 @@ fn ends(alloc: Global, words: &[u32], end: RunEnd, output: &[u8]) -> Result<bool
 const DONE: RunEnd = RunEnd::Over(Report::Done);
 
 #[rattlefmt::skip]
-const SUPERVISOR: [(&[u32], RunEnd, &[u8]); 11] = [
+const SUPERVISOR: [(&[u32], RunEnd, &[u8]); 12] = [
     // The byte A, and the end.
     (&[0xe3a0_0041, 0xef00_0000, 0xe3a0_0000, 0xef00_0011], DONE, b"A"),
+    // A branch to itself.
+    (&[0xeaff_fffe], RunEnd::Going, b""),
     // User mode, through the whole arena of zero words, and out of it.
     (&[0xe3a0_0902, 0xe1b0_f000, 0xe1a0_3001, 0xe1a0_1000, 0xe3a0_0002, 0xe3a0_2000, 0xef00_0011], RunEnd::Over(Report::Stray { kind: Trap::Fetch, address: 0x8_8000, line: 0 }), b""),
     // A new line, two bytes of an input of one, and the end.
@@ -56,13 +58,14 @@ const SUPERVISOR: [(&[u32], RunEnd, &[u8]); 11] = [
 
 /// What becomes of an instruction that user mode finds at the arena's start, with 0 in R2. Behind it the arena is zero.
 #[rattlefmt::skip]
-const USER: [(u32, RunEnd, &[u8]); 9] = [
+const USER: [(u32, RunEnd, &[u8]); 10] = [
     // STR R1,[R2]: outside the arena.
     (0xe582_1000, RunEnd::Over(Report::Stray { kind: Trap::Data, address: 0, line: 90 }), b""),
     // STRB R1,[R0,#-1], just below it.
     (0xe540_1001, RunEnd::Over(Report::Stray { kind: Trap::Data, address: 0x7fff, line: 90 }), b""),
     // To the pad, which goes back to the supervisor.
     (0xeaff_fffd, DONE, b""),
+    (0xef00_0000, RunEnd::Over(Report::Stray { kind: Trap::Fetch, address: 0x8_8000, line: 90 }), b"\0"),
     (0xef00_0141, RunEnd::Over(Report::Stray { kind: Trap::Fetch, address: 0x8_8000, line: 90 }), b"A"),
     (0xef00_0003, RunEnd::Over(Report::Stray { kind: Trap::Fetch, address: 0x8_8000, line: 90 }), b"\n\r"),
     (0xef00_0016, RunEnd::Over(Report::Stray { kind: Trap::Swi, address: 0x8000, line: 90 }), b""),

@@ -1,9 +1,10 @@
 ghost use Rattle.std.specs.Prelude.{◌≡◌};
 ghost use Rattle.basv_top.specs.Ending.{told, ended, ended_run, status_of, refusal_status, report_status, end_status, take_ending};
 
-use crate::refusal::{LONG_IMAGE, Refusal};
+use crate::limits::LONG_IMAGE;
 use crate::status::Status;
 use arm2_machine::ImageError;
+use bas_compile::Refusal;
 use bv_io::{NoMemory, PutError, Report, RunEnd, SinkFault, TakeError};
 use token_file::FileError;
 
@@ -58,13 +59,14 @@ impl<'a> Ending<'a> {
         }
     }
 
+    /// The status that the program ends with.
     pub fn status(self) -> Status
         ensures { result ≡ status_of (told self.entry) }
     {
         match self {
             Ending::Done => Status::Done,
             Ending::Usage => Status::Usage,
-            Ending::Refused(refusal) => refusal.status(),
+            Ending::Refused(refusal) => refusal_status(refusal),
             Ending::ReadFault { .. } => Status::ReadFault,
             Ending::WriteFault => Status::WriteFault,
             Ending::NotImage { .. } => Status::NotImage,
@@ -94,16 +96,14 @@ fn end_status(end: RunEnd) -> Status
     }
 }
 
-impl Refusal {
-    fn status(self) -> Status
-        ensures { result ≡ refusal_status self }
-    {
-        match self {
-            Refusal::Malformed { .. } => Status::Malformed,
-            Refusal::Outside { .. } => Status::Outside,
-            Refusal::Limit { .. } => Status::Limit,
-            Refusal::NoMemory => Status::NoMemory,
-        }
+fn refusal_status(refusal: Refusal) -> Status
+    ensures { result ≡ refusal_status refusal }
+{
+    match refusal {
+        Refusal::Malformed { .. } => Status::Malformed,
+        Refusal::Outside { .. } => Status::Outside,
+        Refusal::Limit { .. } => Status::Limit,
+        Refusal::NoMemory => Status::NoMemory,
     }
 }
 
@@ -121,7 +121,7 @@ impl From<Refusal> for Ending<'_> {
 impl From<FileError> for Ending<'_> {
     ghost use Rattle.std.specs.Prelude.{◌≡◌};
     ghost use Rattle.basv_top.specs.Ending.{Refused, told};
-    ghost use Rattle.basv_top.specs.Refused.{refusal_of};
+    ghost use Rattle.bas_compile.specs.Refused.{refusal_of};
 
     ghost from_gives = { λ error ending. told ending ≡ Refused (refusal_of error) };
 
@@ -147,7 +147,7 @@ impl From<ImageError> for Ending<'_> {
 
 impl From<NoMemory> for Ending<'_> {
     ghost use Rattle.std.specs.Prelude.{◌≡◌};
-    ghost use Rattle.basv_top.specs.declared.refusal.Refusal.TheVariants as refusals;
+    ghost use Rattle.bas_compile.specs.declared.refusal.Refusal.TheVariants as refusals;
     ghost use Rattle.basv_top.specs.Ending.{Refused, told};
 
     ghost from_gives = { λ _ ending. told ending ≡ Refused refusals.NoMemory };

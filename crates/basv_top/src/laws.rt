@@ -1,8 +1,4 @@
-ghost use Rattle.std.specs.Prelude.{◌≡◌, ◌≢◌, ◌⊎◌, List, map, string_bytes};
-ghost use Rattle.basv_top.specs.declared.item.ProgramLine.{ProgramLine as Line};
-ghost use Rattle.basv_top.specs.declared.refusal.Refusal.{Refusal as Reason};
-ghost use Rattle.basv_top.specs.Grammar.{Accepted};
-ghost use Rattle.basv_top.specs.Refused.{Refused};
+ghost use Rattle.std.specs.Prelude.{◌≢◌, map, string_bytes};
 ghost use Rattle.basv_top.specs.Command.{command_of};
 ghost use Rattle.basv_top.specs.InMemory.{seen_in_memory, seen_nothing};
 ghost use Rattle.basv_top.specs.Top.{Ends};
@@ -11,14 +7,6 @@ use crate::status::Status;
 use crate::top::basv;
 use bv_io::{NullSink, SureShelf};
 use std::alloc::Global;
-
-/// The law of the grammar: every file is accepted as exactly one program, or refused for exactly one reason.
-pub fn one_verdict(bytes: &[u8])
-    ensures accepted_or_refused { ((program : List Line) × Accepted bytes.now program) ⊎ ((reason : Reason) × Refused bytes.now reason) }
-    ensures accepted_once { (a b : List Line) → Accepted bytes.now a → Accepted bytes.now b → a ≡ b }
-    ensures refused_once { (a b : Reason) → Refused bytes.now a → Refused bytes.now b → a ≡ b }
-    ensures never_both { (program : List Line) (reason : Reason) → Accepted bytes.now program → Refused bytes.now reason → ⊥ }
-{}
 
 /// The program over a shelf in memory that never fails. Its status has its cause, and is neither of the two faults.
 pub fn basv_in_memory(alloc: Global, words: &[String], shelf: &mut SureShelf) -> Status

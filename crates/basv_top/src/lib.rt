@@ -1,26 +1,20 @@
-//! The compiler from tokenised BASIC V to images of the board, and the program `basv` over any shelf and sinks.
+//! The program `basv` over any shelf and sinks: its commands, their statuses, and their lines on the error output.
 #![tactic(auto)]
 
 #[cfg(test)]
 mod board_tests;
-mod code;
 mod command;
-mod compiler;
 mod ending;
-mod item;
 mod laws;
+mod limits;
 mod listing;
-mod parse;
-mod refusal;
 mod report;
 mod status;
 #[cfg(test)]
 mod tests;
 mod top;
 
-pub use compiler::compile;
-pub use item::{Item, ProgramLine};
-pub use laws::{basv_in_memory, one_verdict};
-pub use refusal::{FILE_BYTES, Refusal, Which};
+pub use bas_compile::{Refusal, Which, compile};
+pub use laws::basv_in_memory;
 pub use status::Status;
 pub use top::basv;

@@ -1,14 +1,15 @@
-ghost use Rattle.std.specs.Prelude.{◌≡◌, ◌/◌, ◌%◌, ◌<◌, true, [], ◌∷◌, ◌++◌, OnOk, OnErr};
-ghost use Rattle.std.specs.Fmt.{digit_glyph};
+ghost use Rattle.std.specs.Prelude.{◌≡◌, ◌/◌, ◌%◌, ◌<◌, [], ◌∷◌, ◌++◌, OnOk, OnErr};
 ghost use Rattle.bv_io.specs.Shelf.{Rose};
 ghost use Rattle.bv_io.specs.Sink.{with_bytes, WritesPart};
+ghost use Rattle.bv_num.specs.Digits.{digit_byte};
 ghost use Rattle.basv_top.specs.Ending.{message_text, told, limit_word, trap_word, address_digits, refusal_text, report_text, end_text, text_of, line_of};
 ghost use Rattle.basv_top.specs.Seen.{Writes, seen_sink};
 
 use crate::ending::Ending;
-use crate::refusal::{Refusal, Which};
 use crate::status::Status;
+use bas_compile::{Refusal, Which};
 use bv_io::{Report, RunEnd, Sink, SinkFault, Trap};
+use bv_num::digit_byte;
 use itoa::Buffer;
 
 const USAGE: &[u8] =
@@ -71,20 +72,18 @@ impl Numbers {
     }
 }
 
-impl Which {
-    /// The limit's word in a line on the error output.
-    fn word(self) -> &'static [u8]
-        ensures { result.now ≡ limit_word self }
-    {
-        match self {
-            Which::File => b"file",
-            Which::Names => b"names",
-            Which::Strings => b"strings",
-            Which::Parameters => b"parameters",
-            Which::Dimensions => b"dimensions",
-            Which::Input => b"input",
-            Which::Image => b"image",
-        }
+/// The word of a limit in a line on the error output.
+fn limit_word(which: Which) -> &'static [u8]
+    ensures { result.now ≡ limit_word which }
+{
+    match which {
+        Which::File => b"file",
+        Which::Names => b"names",
+        Which::Strings => b"strings",
+        Which::Parameters => b"parameters",
+        Which::Dimensions => b"dimensions",
+        Which::Input => b"input",
+        Which::Image => b"image",
     }
 }
 
@@ -104,14 +103,9 @@ fn trap_word(kind: Trap) -> &'static [u8]
 /// The hexadecimal digit of an address at the place that has this value, a power of 16.
 fn digit_at(address: u32, place_value: u32) -> u8
     requires { 0 < place_value }
-    ensures { result ≡ digit_glyph true (address / place_value % 16) }
+    ensures { result ≡ digit_byte (address / place_value % 16) }
 {
-    let digit = (address / place_value % 16) as u8;
-    if digit < 10 {
-        b'0' + digit
-    } else {
-        b'A' + (digit - 10)
-    }
+    digit_byte(address / place_value % 16)
 }
 
 /// The eight hexadecimal digits of an address.
@@ -141,7 +135,7 @@ fn refusal_message(refusal: Refusal, numbers: &mut Numbers) -> Message<'_>
             Message::numbered(b"outside the profile at line ", numbers.first.format(line))
         }
         Refusal::Limit { which, count } => Message {
-            name: which.word(),
+            name: limit_word(which),
             link: b" at ",
             number: numbers.first.format(count).as_bytes(),
             ..Message::plain(b"limit ")

@@ -3,15 +3,12 @@
 
 ghost use Rattle.std.specs.Prelude.{◌<◌, ◌^◌, length};
 
-use crate::compiler::compile;
 use crate::laws::basv_in_memory;
-use crate::refusal::{FILE_BYTES, Refusal, Which};
 use crate::status::Status;
 use crate::top::basv;
 use arm2_machine::{Board, ImageError, read_image, write_image};
-use bv_io::{
-    MemShelf, MemSink, Report, RunEnd, Shelf, Sink, SinkFault, SureShelf, TakeError, Trap,
-};
+use bas_compile::{FILE_BYTES, Refusal, Which, compile};
+use bv_io::{MemShelf, MemSink, Report, RunEnd, Shelf, Sink, SinkFault, SureShelf, TakeError};
 use sqlite_items::Items;
 use std::alloc::{AllocError, Global};
 use std::test::Fail;
@@ -244,6 +241,10 @@ fn refusals_say_why(rt: HostRuntime) -> Result<(), Fail> {
     let limit = b"limit file at 65537\n";
     let compile = &["compile", "f", "i"];
     assert!(rt; says(alloc, compile, VDU_65, Status::Done, b"")?);
+    for start in [b"".as_slice(), b"\x0d\x00\x0a\x07\xf1"] {
+        let at_once = b"malformed file at byte 0\n";
+        assert!(rt; says(alloc, compile, start, Status::Malformed, at_once)?);
+    }
     assert!(rt; says(alloc, compile, cut_off, Status::Malformed, malformed)?);
     assert!(rt; says(alloc, &["list", "f"], cut_off, Status::Malformed, malformed)?);
     assert!(rt;
@@ -346,27 +347,16 @@ fn images_are_read_back(rt: HostRuntime) -> Result<(), Fail> {
 }
 
 #[test]
-fn an_image_breaks(rt: HostRuntime) -> Result<(), Fail> {
-    let alloc = rt.alloc();
+fn an_image_is_written(rt: HostRuntime) -> Result<(), Fail> {
     assert_eq!(rt;
-        write_image(alloc, &[0xe600_0010])?.as_slice(),
+        write_image(rt.alloc(), &[0xe600_0010])?.as_slice(),
         UNKNOWN_IMAGE
     );
-    let (end, written) = run_image(alloc, UNKNOWN_IMAGE)?;
-    let kind = Trap::Undefined;
-    assert_eq!(rt;
-        end,
-        RunEnd::Broken {
-            kind,
-            address: 0x10_0000
-        }
-    );
-    assert!(rt; written.is_empty());
     Ok(())
 }
 
 /// Image files: the status, the output and the line of their runs.
-const RUNS: [(&[u8], Status, &[u8], &[u8]); 10] = [
+const RUNS: [(&[u8], Status, &[u8], &[u8]); 11] = [
     (VDU_65_IMAGE, Status::Done, b"A", b""),
     (
         b"BVA2\x04\0\0\0\x01\0\xa0\xe3\x14\x10\xa0\xe3\x0a\x20\xa0\xe3\x11\0\0\xef",
@@ -385,6 +375,13 @@ const RUNS: [(&[u8], Status, &[u8], &[u8]); 10] = [
         Status::Stray,
         b"",
         b"stray data at &AB000000 from line 90\n",
+    ),
+    // User mode, through the whole arena of zero words, and out of it.
+    (
+        b"BVA2\x07\0\0\0\x02\x09\xa0\xe3\0\xf0\xb0\xe1\x01\x30\xa0\xe1\0\x10\xa0\xe1\x02\0\xa0\xe3\0\x20\xa0\xe3\x11\0\0\xef",
+        Status::Stray,
+        b"",
+        b"stray fetch at &00088000 from line 0\n",
     ),
     (
         b"BVA2\x03\0\0\0\x03\0\xa0\xe3\x0a\x20\xa0\xe3\x11\0\0\xef",
@@ -462,53 +459,66 @@ fn runs_compiled(
 fn compiled_images_are_run(rt: HostRuntime) -> Result<(), Fail> {
     let alloc = rt.alloc();
     assert!(rt; runs_compiled(alloc, VDU_65, 9, (Status::Done, b"A", b""))?);
-    assert!(rt;
-        runs_compiled(
-            alloc,
-            FOUR_LINES,
-            3,
-            (Status::WriteFault, b"AB", b"cannot write\n")
-        )?
-    );
+    let written = b"ABC";
+    for failing in 1..5 {
+        let before = &written[..failing - 1];
+        let wanted = (Status::WriteFault, before, b"cannot write\n".as_slice());
+        assert!(rt;
+            runs_compiled(alloc, FOUR_LINES, failing as u64, wanted)?,
+            "{failing}"
+        );
+    }
     Ok(())
 }
 
-/// How often a run in calls of so many instructions goes on, up to ten times.
-fn calls_until_over(board: &mut Board, out: &mut MemSink, bound: u64) -> Result<u64, SinkFault> {
+/// How a run in up to ten calls of so many instructions ends, and how many of its calls went on.
+fn run_in_calls(
+    board: &mut Board,
+    out: &mut MemSink,
+    bound: u64,
+) -> Result<(RunEnd, u64), SinkFault> {
     for calls in 0..10 {
         if board.closed() {
-            return Ok(calls);
+            return Ok((RunEnd::Going, calls));
         }
-        board.run(bound, out)?;
+        let end = board.run(bound, out)?;
+        if end != RunEnd::Going {
+            return Ok((end, calls));
+        }
     }
-    Ok(10)
+    Ok((RunEnd::Going, 10))
 }
 
-/// Whether the image of `10VDU 65` runs to the same end in calls of so many instructions.
-fn runs_in_calls(alloc: Global, bound: u64) -> Result<bool, Fail> {
+/// Whether the image of `10VDU 65` runs alike in calls of so many instructions, of which so many go on, and in one call.
+fn runs_in_calls(alloc: Global, bound: u64, going: u64) -> Result<bool, Fail> {
     let mut board = load(alloc, VDU_65_IMAGE)?;
+    let mut whole = load(alloc, VDU_65_IMAGE)?;
     let mut out = MemSink::new(alloc, 1)?;
-    calls_until_over(&mut board, &mut out, bound)?;
-    Ok(board.closed() && board.steps() == 4 && out.bytes() == b"A".as_slice())
+    let mut whole_out = MemSink::new(alloc, 1)?;
+    let (end, calls) = run_in_calls(&mut board, &mut out, bound)?;
+    let whole_end = run_in_calls(&mut whole, &mut whole_out, 1000)?;
+    Ok(
+        whole_end == (end, 0)
+            && calls == going
+            && board.steps() == 4
+            && whole.steps() == 4
+            && out.bytes() == b"A".as_slice()
+            && whole_out.bytes() == b"A".as_slice()
+            && board.arena() == whole.arena(),
+    )
 }
 
 #[test]
 fn runs_are_counted(rt: HostRuntime) -> Result<(), Fail> {
     let alloc = rt.alloc();
-    let mut board = load(alloc, VDU_65_IMAGE)?;
-    let mut out = MemSink::new(alloc, 1)?;
-    assert_eq!(rt; calls_until_over(&mut board, &mut out, 1)?, 4);
-    assert_eq!(rt; board.steps(), 4);
-    assert_eq!(rt; out.bytes(), b"A".as_slice());
-    assert_eq!(rt; board.arena().len(), 0x8_0000);
-    for bound in 1..6 {
-        assert!(rt; runs_in_calls(alloc, bound)?, "{bound}");
+    for (bound, going) in [(1, 3), (2, 1), (3, 1), (4, 0), (5, 0)] {
+        assert!(rt; runs_in_calls(alloc, bound, going)?, "{bound}");
     }
-    let mut again = load(alloc, VDU_65_IMAGE)?;
-    assert!(rt;
-        calls_until_over(&mut again, &mut out, 1).is_err(),
-        "no room is left"
-    );
+    let mut board = load(alloc, VDU_65_IMAGE)?;
+    let mut out = MemSink::new(alloc, 0)?;
+    assert!(rt; run_in_calls(&mut board, &mut out, 1).is_err(), "no room");
+    assert!(rt; board.closed());
+    assert_eq!(rt; board.steps(), 2);
     Ok(())
 }
 

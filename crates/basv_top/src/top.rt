@@ -5,23 +5,23 @@ ghost use Rattle.token_file.specs.declared.line.Line.{Line as FileLine};
 ghost use Rattle.token_file.specs.Lines.{Lines};
 ghost use Rattle.arm2_machine.specs.Image.{ImageOf};
 ghost use Rattle.arm2_machine.specs.Words.{AreWords};
-ghost use Rattle.basv_top.specs.declared.item.ProgramLine.{ProgramLine as Line};
-ghost use Rattle.basv_top.specs.declared.refusal.Refusal.{Refusal as Reason};
+ghost use Rattle.bas_compile.specs.declared.item.ProgramLine.{ProgramLine as Line};
+ghost use Rattle.bas_compile.specs.declared.refusal.Refusal.{Refusal as Reason};
 ghost use Rattle.basv_top.specs.Command.{Listing as IsList, Compile as IsCompile, Run as IsRun, command_of};
 ghost use Rattle.basv_top.specs.Ending.{Ending as Verdict, told, ended, ended_run, status_of, refusal_status};
-ghost use Rattle.basv_top.specs.Grammar.{Accepted};
-ghost use Rattle.basv_top.specs.Refused.{Refused};
+ghost use Rattle.bas_compile.specs.Grammar.{Accepted};
+ghost use Rattle.bas_compile.specs.Refused.{Refused};
 ghost use Rattle.basv_top.specs.Seen.{seen_shelf, seen_sink};
 ghost use Rattle.basv_top.specs.Top.{WritesImage, GivesLines, listings, Unlistable, NotTaken, Explains, ExplainsCompile, ExplainsList, GivesImage, HasRun, Unrunnable, ExplainsWords, ExplainsRun, Ends, MayWrite, EndsRun, BeganRun, MayChange};
 
 use crate::command::{Command, read_command};
-use crate::compiler::compile;
 use crate::ending::Ending;
+use crate::limits::{IMAGE_BYTES, LONG_IMAGE};
 use crate::listing::list_lines;
-use crate::refusal::{FILE_BYTES, IMAGE_BYTES, LONG_FILE, LONG_IMAGE, Refusal};
 use crate::report::report;
 use crate::status::Status;
 use arm2_machine::{Board, IMAGE_WORDS, read_image};
+use bas_compile::{FILE_BYTES, LONG_FILE, Refusal, compile};
 use bv_io::{RunEnd, Shelf, Sink};
 use std::alloc::Global;
 use token_file::read_file;
@@ -96,7 +96,6 @@ fn run_on_board<'a, O: Sink>(
     requires { length words.now ≤ IMAGE_WORDS }
     ensures explained { ExplainsWords words.now (seen_sink O.written O.faults out.old) (seen_sink O.written O.faults out.new)
         (ended_run result GREATEST_BOUND) }
-    ensures are_words { AreWords words.now }
 {
     let mut board = Board::load(alloc, words, Vec::new(alloc))?;
     let end = board.run(GREATEST_BOUND, out)?;

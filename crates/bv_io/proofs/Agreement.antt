@@ -16,7 +16,7 @@ Extends (Going out arena) later = IsPrefix out (output_of later)
 pub record Grows (outcomes : ℕ → Outcome) : Type 0 where
   pub at : (n k : ℕ) → Extends (outcomes n) (outcomes (n + k))
 
-output-shown : {S : Type 0} (arena : S → List ℕ) (p : Progress S End) → output_of (shown arena p) ≡ written_by p
+pub output-shown : {S : Type 0} (arena : S → List ℕ) (p : Progress S End) → output_of (shown arena p) ≡ written_by p
 output-shown arena (At s out) = refl
 output-shown arena (Ended s out (Reports report)) = refl
 output-shown arena (Ended s out (Breaks kind address)) = refl

@@ -1,7 +1,7 @@
 -- Runs of any machine: more steps, and stretches of steps that lead from one state to another.
-use Rattle.std.proofs.Common.{◌≡◌, ℕ, zero, suc, ◌+◌, ◌<◌, List, [], ◌++◌, refl, sym, ap, subst, ◌∙◌, arith, append_assoc, append-nil}
+use Rattle.std.proofs.Common.{◌≡◌, ℕ, zero, suc, ◌+◌, ◌<◌, List, [], ◌++◌, refl, sym, ap, subst, ◌∙◌, arith, append_assoc, append-nil, add-zero, zero-add}
 use Rattle.bv_io.specs.Outcome.{IsPrefix}
-use Rattle.bv_io.specs.Runs.{Turn, Goes, Stops, Progress, At, Ended, turned, run, written_by}
+use Rattle.bv_io.specs.Runs.{Turn, Goes, Stops, Progress, At, Ended, turned, run, behind, written_by, counted_on, steps_made}
 
 pub run-zero : {S E : Type 0} (step : S → Turn S E) (s : S) (out : List ℕ) → run step zero s out ≡ At s out
 unfolding run
@@ -35,14 +35,48 @@ run-add step (suc m) n s out =
     ∙ sym (turned-and_then (step s) (run step m) (run step n) out)
     ∙ sym (ap (λ p. and_then p (run step n)) (run-suc step m s out))
 
+pub steps_made-zero : {S E : Type 0} (step : S → Turn S E) (s : S) → steps_made step zero s ≡ 0
+unfolding steps_made
+steps_made-zero step s = refl
+
+pub steps_made-suc : {S E : Type 0} (step : S → Turn S E) (n : ℕ) (s : S) → steps_made step (suc n) s ≡ counted_on (step s) (steps_made step n)
+unfolding steps_made
+steps_made-suc step n s = refl
+
+-- what is counted behind a run: nothing once it has ended
+abbrev pub made_after : {S E : Type 0} → Progress S E → (S → ℕ) → ℕ
+made_after (At s out) rest = rest s
+made_after (Ended s out end) rest = 0
+
+counted_on-add : {S E : Type 0} (turn : Turn S E) (all first more : S → ℕ) (next : S → List ℕ → Progress S E) → ((s : S) (out : List ℕ) → all s ≡ first s + made_after (next s out) more) → (out : List ℕ) → counted_on turn all ≡ counted_on turn first + made_after (turned turn next out) more
+counted_on-add (Goes state bytes) all first more next each out = omega (arith, each state (out ++ bytes))
+counted_on-add (Stops state bytes end) all first more next each out = refl
+
+-- of m steps and n more, those within m are made first
+pub steps_made-add : {S E : Type 0} (step : S → Turn S E) (m n : ℕ) (s : S) (out : List ℕ) → steps_made step (m + n) s ≡ steps_made step m s + made_after (run step m s out) (steps_made step n)
+steps_made-add step zero n s out =
+    ap (λ k. steps_made step k s) (let e : 0 + n ≡ n = omega arith in e)
+    ∙ sym (zero-add (steps_made step n s))
+    ∙ (λ i. sym (steps_made-zero step s) i + made_after (sym (run-zero step s out) i) (steps_made step n))
+steps_made-add step (suc m) n s out =
+    ap (λ k. steps_made step k s) (let e : suc m + n ≡ suc (m + n) = omega arith in e)
+    ∙ steps_made-suc step (m + n) s
+    ∙ counted_on-add (step s) (steps_made step (m + n)) (steps_made step m) (steps_made step n) (run step m) (steps_made-add step m n) out
+    ∙ (λ i. sym (steps_made-suc step m s) i + made_after (sym (run-suc step m s out) i) (steps_made step n))
+
+-- a run that still goes on has made all of its steps
+pub all_made : {S E : Type 0} (step : S → Turn S E) (n : ℕ) (s t : S) (out all : List ℕ) → run step n s out ≡ At t all → steps_made step n s ≡ n
+all_made step zero s t out all goes = steps_made-zero step s
+all_made step (suc n) s t out all goes =
+    steps_made-suc step n s ∙ by_turn (step s) (λ next out'. all_made step n next t out' all) (sym (run-suc step n s out) ∙ goes)
+  where
+    by_turn : (turn : _) → ((next : _) (out' : List ℕ) → run step n next out' ≡ At t all → steps_made step n next ≡ n) → turned turn (run step n) out ≡ At t all → counted_on turn (steps_made step n) ≡ suc n
+    by_turn (Goes next bytes) each goes = ap suc (each next (out ++ bytes) goes)
+    by_turn (Stops last bytes end) each goes = absurd (let e : Ended last (out ++ bytes) end ≡ At t all = goes in cc)
+
 -- a step that stops ends the run
 pub run_stops : {S E : Type 0} (step : S → Turn S E) (s t : S) (bytes : List ℕ) (end : E) (out : List ℕ) → step s ≡ Stops t bytes end → run step 1 s out ≡ Ended t (out ++ bytes) end
 run_stops step s t bytes end out stops = run-suc step 0 s out ∙ ap (λ u. turned u (run step 0) out) stops
-
--- What was written before a stretch stands in front of what the stretch writes.
-abbrev pub behind : {S E : Type 0} → List ℕ → Progress S E → Progress S E
-behind front (At s out) = At s (front ++ out)
-behind front (Ended s out end) = Ended s (front ++ out) end
 
 turned-behind : {S E : Type 0} (t : Turn S E) (f : S → List ℕ → Progress S E) → ((s : S) (front out : List ℕ) → f s (front ++ out) ≡ behind front (f s out)) → (front out : List ℕ) → turned t f (front ++ out) ≡ behind front (turned t f out)
 turned-behind (Goes s bytes) f same front out = ap (f s) (append_assoc front out bytes) ∙ same s front (out ++ bytes)
@@ -54,6 +88,23 @@ run-behind step (suc n) s front out =
     run-suc step n s (front ++ out)
     ∙ turned-behind (step s) (run step n) (run-behind step n) front out
     ∙ sym (ap (behind front) (run-suc step n s out))
+
+-- m steps that go on, and n more from where they stand
+pub run-at : {S E : Type 0} (step : S → Turn S E) (m n : ℕ) (s t : S) (out : List ℕ) → run step m s [] ≡ At t out → run step (m + n) s [] ≡ behind out (run step n t [])
+run-at step m n s t out goes =
+    run-add step m n s [] ∙ ap (λ p. and_then p (run step n)) goes ∙ ap (run step n t) (sym (append-nil out)) ∙ run-behind step n t out []
+
+-- more steps change nothing of a run that has ended
+pub run-ended : {S E : Type 0} (step : S → Turn S E) (m n : ℕ) (s t : S) (out : List ℕ) (end : E) → run step m s [] ≡ Ended t out end → run step (m + n) s [] ≡ Ended t out end
+run-ended step m n s t out end ends = run-add step m n s [] ∙ ap (λ p. and_then p (run step n)) ends
+
+pub steps_made-at : {S E : Type 0} (step : S → Turn S E) (m n : ℕ) (s t : S) (out : List ℕ) → run step m s [] ≡ At t out → steps_made step (m + n) s ≡ m + steps_made step n t
+steps_made-at step m n s t out goes =
+    steps_made-add step m n s [] ∙ (λ i. all_made step m s t [] out goes i + made_after (goes i) (steps_made step n))
+
+pub steps_made-ended : {S E : Type 0} (step : S → Turn S E) (m n : ℕ) (s t : S) (out : List ℕ) (end : E) → run step m s [] ≡ Ended t out end → steps_made step (m + n) s ≡ steps_made step m s
+steps_made-ended step m n s t out end ends =
+    steps_made-add step m n s [] ∙ ap (λ p. steps_made step m s + made_after p (steps_made step n)) ends ∙ add-zero _
 
 pub IsPrefix-refl : (xs : List ℕ) → IsPrefix xs xs
 IsPrefix-refl xs = ([], sym (append-nil xs))

@@ -34,6 +34,11 @@ unfoldable pub steps_made : {S E : Type 0} → (S → Turn S E) → ℕ → S �
 steps_made step zero state = 0
 steps_made step (suc n) state = counted_on (step state) (steps_made step n)
 
+-- where a run stands whose steps came behind others that had written this
+abbrev pub behind : {S E : Type 0} → List ℕ → Progress S E → Progress S E
+behind front (At state out) = At state (front ++ out)
+behind front (Ended state out end) = Ended state (front ++ out) end
+
 -- what a run has written
 abbrev pub written_by : {S E : Type 0} → Progress S E → List ℕ
 written_by (At state out) = out

@@ -1,20 +1,17 @@
 -- The digits of a number: what they are, and that they read back as the number.
-use Rattle.std.proofs.Common.{◌≡◌, ◌≢◌, ℕ, suc, decimal, lt-ltb, if◌then◌else◌, ◌+◌, ◌*◌, ◌/◌, ◌%◌, ◌<◌, ◌≤◌, ◌^◌, List, [], ◌∷◌, ◌++◌, length, map, slice_index, refl, sym, ap, subst, ◌∙◌, arith, length-append}
+use Rattle.std.proofs.Common.{◌≡◌, ◌≢◌, ℕ, suc, ℤ, pos, negsuc, FitsSigned, w32, decimal, lt-ltb, if◌then◌else◌, ◌+◌, ◌*◌, ◌/◌, ◌%◌, ◌<◌, ◌≤◌, ◌^◌, List, [], ◌∷◌, ◌++◌, length, map, slice_index, refl, sym, ap, subst, ◌∙◌, arith, length-append}
 use Rattle.std.specs.Char.{digit_value}
+use Rattle.std.specs.Fmt.{signed_decimal}
 use Rattle.std.specs.List.{AllByRecursion}
 use Rattle.std.specs.Int.Digits.{digits_of, number_from_digits, AllBelowBase}
 use Rattle.std.specs.Str.Parse.{digits_value}
 use Rattle.std.proofs.lemmas.Bool.Decides.{nat_tests}
-use Rattle.std.proofs.lemmas.List.{map-append}
+use Rattle.std.proofs.lemmas.List.{length-map, map-append}
 use Rattle.std.proofs.lemmas.Int.Digits.{digits_value_is, number_push, number_digits_of, digits_of_step, length-digits_of-le, all_below_base_digits_of, first_digits_of}
 use Rattle.std.proofs.Math.Nat.{div-eq_of_lt, mod-eq_of_lt}
 use Rattle.std.proofs.lemmas.Fmt.{decimal_by_steps}
 use Rattle.std.proofs.lemmas.Nat.{div_below, mod_below, div-add-mod', le-div}
-use Rattle.bv_num.specs.Digits.{digit_byte, digits, decimal_digits, hex_digits}
-
-length-map : (xs : List ℕ) → length (map digit_byte xs) ≡ length xs
-length-map [] = refl
-length-map (x ∷ xs) = ap suc (length-map xs)
+use Rattle.bv_num.specs.Digits.{digit_byte, digits, decimal_digits, hex_digits, decimal_text}
 
 -- the digits before the last, and the last
 pub digits-split : (base n : ℕ) → digits base n ≡ map digit_byte (digits_of base (n / base)) ++ digit_byte (n % base) ∷ []
@@ -40,13 +37,9 @@ length-digits-le base k n least small =
       arith,
       ap length (digits-split base n),
       length-append (map digit_byte (digits_of base (n / base))) (digit_byte (n % base) ∷ []),
-      length-map (digits_of base (n / base)),
+      length-map (digits_of base (n / base)) digit_byte,
       length-digits_of-le base k (n / base) least (div_below n base (base ^ k) (omega (arith, least)) small),
     )
-
--- a number below 100,000 has at most five decimal digits
-pub length-decimal_digits-le : (n : ℕ) → n < 100000 → length (decimal_digits n) ≤ 5
-length-decimal_digits-le n small = length-digits-le 10 4 n (omega arith) (omega (arith, small))
 
 -- 32 bits have at most eight hexadecimal digits
 pub length-hex_digits-le : (n : ℕ) → n < 2 ^ 32 → length (hex_digits n) ≤ 8
@@ -127,3 +120,8 @@ decimal_digits-written n small =
     (λ m ds great front. digits-more 10 m (omega arith) great ∙ (λ i. front i ++ digit_low (m % 10) (omega arith) i ∷ []))
     n
     small
+
+-- and those of a number with its sign
+pub decimal_text-written : (z : ℤ) → FitsSigned w32 z → decimal_text z ≡ signed_decimal z
+decimal_text-written (pos n) fits = decimal_digits-written n (omega (arith, fits))
+decimal_text-written (negsuc n) fits = ap (λ ds. 45 ∷ ds) (decimal_digits-written (suc n) (omega (arith, fits)))

@@ -1,4 +1,5 @@
-ghost use Rattle.std.specs.Prelude.{◌≡◌, ◌≤◌, ◌<◌, ◌∷◌, [], length};
+ghost use Rattle.std.specs.Prelude.{◌≡◌, ◌≢◌, ◌≤◌, ◌<◌, ◌∷◌, [], length, slice_index};
+ghost use Rattle.std.specs.Fmt.{signed_decimal};
 ghost use Rattle.bv_num.specs.Digits.{digit_byte, digits, decimal_text, hex_digits};
 ghost use Rattle.bv_num.specs.Shift.{signed};
 ghost use Rattle.bv_num.specs.Value.{value_of, data_value};
@@ -59,8 +60,8 @@ impl Digits {
     }
 }
 
-/// The byte of a digit below 16.
-fn byte_of(digit: u32) -> u8
+/// The byte of a digit below 16: `0` to `9`, then `A` to `F`.
+pub fn digit_byte(digit: u32) -> u8
     requires { digit < 16 }
     ensures { result ≡ digit_byte digit }
 {
@@ -78,18 +79,19 @@ fn in_base(base: u32, n: u32) -> Digits
     ensures value { result ≡ digits base n }
     ensures short { length result < LONGEST_NUMBER }
 {
-    let mut digits = Digits::of_byte(byte_of(n % base));
+    let mut digits = Digits::of_byte(digit_byte(n % base));
     let mut rest = n / base;
     while rest > 0 {
-        digits.push_front(byte_of(rest % base));
+        digits.push_front(digit_byte(rest % base));
         rest /= base;
     }
     digits
 }
 
-/// The decimal text of a number, which VAL reads back.
+/// The decimal text of a number, as std writes it, which VAL reads back.
 pub fn decimal(n: i32) -> Digits
     ensures value { result ≡ decimal_text n }
+    ensures written { result ≡ signed_decimal n }
     ensures reading { value_of result ≡ Ok n }
     ensures short { length result ≤ LONGEST_NUMBER }
 {
@@ -100,9 +102,11 @@ pub fn decimal(n: i32) -> Digits
     digits
 }
 
-/// The hexadecimal text of a number's 32 bits, in upper case, which READ reads back behind `&`.
+/// The hexadecimal text of a number's 32 bits, in upper case and without leading zeros, which READ reads back behind
+/// `&`.
 pub fn hex(n: u32) -> Digits
     ensures value { result ≡ hex_digits n }
+    ensures first { 0 < n → slice_index result 0 ≢ 48 }
     ensures reading { data_value (38 ∷ result) ≡ Ok (signed n) }
     ensures short { length result ≤ 8 }
 {

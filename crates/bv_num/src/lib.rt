@@ -9,6 +9,6 @@ mod tests;
 mod value;
 
 pub use arithmetic::{DIVISION_BY_ZERO, TOO_BIG, abs, add, div, mul, neg, rem, sub};
-pub use digits::{Digits, LONGEST_NUMBER, decimal, hex};
+pub use digits::{Digits, LONGEST_NUMBER, decimal, digit_byte, hex};
 pub use shifts::{ShiftKind, shift};
 pub use value::{data_value, value_of};

@@ -2,7 +2,6 @@
 use Rattle.std.proofs.Common.{◌≡◌, ℕ, zero, suc, ◌+◌, ◌*◌, ◌/◌, ◌%◌, ◌<◌, ◌≤◌, List, [], ◌∷◌, ◌++◌, length, replicate, take, drop, slice_index, slice_set, refl, sym, ap, ◌∙◌, arith, add-zero, inl, inr}
 use Rattle.std.proofs.lemmas.Bool.{cases_lt}
 use Rattle.std.proofs.lemmas.Grind.{common_steps}
-use Rattle.bv_io.specs.Bytes.{zeros}
 use Rattle.bv_ram.specs.Words.{word_bytes, word_at, put_at, repeated}
 
 pub length-put_at : (bytes new : List ℕ) (at : ℕ) → at + length new ≤ length bytes → length (put_at bytes at new) ≡ length bytes
@@ -14,10 +13,6 @@ length-replicate n byte = grind (arith, common_steps)
 pub length-repeated : (n byte : ℕ) → length (repeated n byte) ≡ n
 unfolding repeated
 length-repeated n byte = length-replicate n byte
-
-pub repeated_zeros : (n : ℕ) → repeated n 0 ≡ zeros n
-unfolding repeated zeros
-repeated_zeros n = refl
 
 -- a byte that was put
 pub put_at_inside : (bytes new : List ℕ) (at k : ℕ) → at ≤ length bytes → k < length new → slice_index (put_at bytes at new) (at + k) ≡ slice_index new k

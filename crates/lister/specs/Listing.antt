@@ -1,6 +1,9 @@
--- The listing of a line, as Acorn's LIST shows it. What stands in place of bytes that are no token is this project's own.
-use Rattle.std.specs.Prelude.{ℕ, zero, suc, ◌+◌, ◌-◌, ◌/◌, ◌%◌, Bool, true, false, ◌||◌, ◌==◌, nat_lt, not, List, [], ◌∷◌, ◌++◌, length, replicate, unwrap_or, codes, decimal, if◌then◌else◌}
+-- The listing of a line: its layout is this project's own, and its keywords are those of the table of tokens.
+use Rattle.std.specs.Prelude.{ℕ, zero, suc, ◌-◌, ◌/◌, ◌%◌, Bool, true, false, ◌||◌, ◌==◌, not, List, [], ◌∷◌, ◌++◌, length, replicate, unwrap_or, codes, decimal, if◌then◌else◌}
 use Rattle.token_file.specs.declared.line.Line.{Line}
+use Rattle.bv_num.specs.Digits.{digit_byte}
+use Rattle.bv_token.specs.declared.reference.TheConstants.{LINE_REFERENCE}
+use Rattle.bv_token.specs.declared.tokens.TheConstants.{DATA, REM}
 use Rattle.bv_token.specs.Tokens.{begins_pair, keyword_of, keyword_of_token}
 use Rattle.bv_token.specs.References.{referred}
 
@@ -8,13 +11,9 @@ use Rattle.bv_token.specs.References.{referred}
 abbrev pub justified : ℕ → List ℕ → List ℕ
 justified columns text = replicate (columns - length text) 32 ++ text
 
--- the digit of a number below 16, with capital letters
-abbrev pub hex_digit : ℕ → ℕ
-hex_digit n = if nat_lt n 10 then n + 48 else n + 55
-
 -- the two hexadecimal digits of a byte
 abbrev pub hex_byte : ℕ → List ℕ
-hex_byte byte = hex_digit (byte / 16) ∷ hex_digit (byte % 16) ∷ []
+hex_byte byte = digit_byte (byte / 16) ∷ digit_byte (byte % 16) ∷ []
 
 -- What the symbol at the front of a text lists as, and how many bytes behind its first one belong to it.
 pub record Shown : Type 0 where
@@ -24,7 +23,8 @@ pub record Shown : Type 0 where
 abbrev pub shown_as : List ℕ → ℕ → Shown
 shown_as text taken = record { text = text; taken = taken }
 
--- a reference to a line is the line's number; where fewer than three bytes are left, the byte 141 stands for itself
+-- a reference to a line is the line's number; where fewer than three bytes are left, the byte that begins one stands
+-- for itself
 abbrev pub shown_reference : List ℕ → Shown
 shown_reference (a ∷ b ∷ c ∷ rest) = shown_as (decimal (referred a b c)) 3
 shown_reference (a ∷ b ∷ []) = shown_as (codes "<8D>") 0
@@ -43,12 +43,12 @@ shown_byte byte = unwrap_or (keyword_of_token byte) (byte ∷ [])
 
 -- the tokens of REM and DATA, behind which all bytes stand as they are
 abbrev pub begins_tail : ℕ → Bool
-begins_tail byte = (byte == 244) || (byte == 220)
+begins_tail byte = (byte == REM) || (byte == DATA)
 
 -- the symbol at the front of a text, outside quotation marks
 abbrev pub shown : ℕ → List ℕ → Shown
 shown first rest =
-    if first == 141 then shown_reference rest
+    if first == LINE_REFERENCE then shown_reference rest
     else if begins_pair first then shown_pair first rest
     else if begins_tail first then shown_as (shown_byte first ++ rest) (length rest)
     else shown_as (shown_byte first) 0

@@ -3,7 +3,5 @@
 
 mod line;
 mod symbol;
-#[cfg(test)]
-mod tests;
 
 pub use line::list_line;

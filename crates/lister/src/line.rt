@@ -40,12 +40,12 @@ fn push_text(listing: &mut Vec<u8>, text: &[u8]) -> Result<(), AllocError>
     Ok(())
 }
 
-/// The line as Acorn's LIST shows it, ended by a new line: its number in five columns, then its text with the keywords
-/// of its tokens. Bytes that are no token and should be one stand as hexadecimal digits between `<` and `>`.
+/// The line's listing, ended by a new line: its number in five columns, then its text with the keywords of its tokens.
+/// Bytes that are no token and should be one stand as hexadecimal digits between `<` and `>`.
 #[tactic(auto, using(crate::proofs::Listed::five_columns))]
 pub fn list_line(alloc: Global, line: &Line) -> Result<Vec<u8>, NoMemory>
     ensures listing { IfOk result (λ bytes. bytes.items ≡ listing line.now) }
-    ensures columns { OnOk result (length (justified 5 (decimal line.now.number)) ≡ 5) }
+    ensures columns { length (justified 5 (decimal line.now.number)) ≡ 5 }
 {
     let mut listing = Vec::new(alloc);
     push_number(&mut listing, line.number)?;

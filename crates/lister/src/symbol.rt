@@ -1,26 +1,20 @@
-ghost use Rattle.std.specs.Prelude.{◌≡◌, ◌<◌, ◌++◌, drop, false, IfOk, OnOk};
+ghost use Rattle.std.specs.Prelude.{◌≡◌, ◌++◌, drop, false, IfOk, OnOk};
 ghost use Rattle.bv_token.specs.Tokens.{begins_pair};
-ghost use Rattle.lister.specs.Listing.{hex_digit, hex_byte, shown, shown_byte, shown_pair, shown_reference};
+ghost use Rattle.lister.specs.Listing.{hex_byte, shown, shown_byte, shown_pair, shown_reference};
 
+use bv_num::digit_byte;
 use bv_token::{DATA, LINE_REFERENCE, PAIR_FIRST, PAIR_LAST, REM, keyword, line_ref};
 use itoa::Buffer;
 use std::alloc::AllocError;
 
-fn hex_digit(value: u8) -> u8
-    requires { value < 16 }
-    ensures { result ≡ hex_digit value }
-{
-    if value < 10 {
-        value + b'0'
-    } else {
-        value - 10 + b'A'
-    }
-}
-
+/// The two hexadecimal digits of a byte.
 fn hex_byte(byte: u8) -> [u8; 2]
     ensures { result ≡ hex_byte byte }
 {
-    [hex_digit(byte / 16), hex_digit(byte % 16)]
+    [
+        digit_byte(u32::from(byte / 16)),
+        digit_byte(u32::from(byte % 16)),
+    ]
 }
 
 /// Lists what stands behind the byte `LINE_REFERENCE`, and answers the bytes behind that.

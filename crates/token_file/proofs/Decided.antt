@@ -2,7 +2,6 @@
 use Rattle.std.proofs.Common.{◌≡◌, ◌⊎◌, inl, inr, ℕ, zero, suc, ◌+◌, ◌-◌, ◌*◌, ◌/◌, ◌%◌, ◌<◌, ◌≤◌, Bool, true, false, List, [], ◌∷◌, ◌++◌, length, take, drop, flat_map, refl, sym, ap, subst, ◌∙◌, arith, append_assoc, length-append, length-take-le}
 use Rattle.std.specs.List.{list_any}
 use Rattle.std.proofs.lemmas.Bool.{cases_eq, cases_lt}
-pub use Rattle.std.proofs.lemmas.Bool.{cases_eq as decide_eq, cases_lt as decide_lt}
 use Rattle.token_file.specs.declared.line.TheConstants.{RECORD_START, END_MARK, HEAD_BYTES}
 use Rattle.token_file.specs.declared.line.Line.{Line}
 use Rattle.token_file.specs.Lines.{record_of, IsLine, Lines, BeginsRecord, BeginsEnd, Malformed}

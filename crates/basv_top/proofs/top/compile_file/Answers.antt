@@ -1,5 +1,5 @@
 use Rattle.std.proofs.Common.{subst}
-use Rattle.basv_top.specs.Refused.{Explained}
+use Rattle.bas_compile.specs.Refused.{Explained}
 use Rattle.basv_top.specs.Seen.{seen_shelf}
 use Rattle.basv_top.proofs.Endings.{explained_not_taken_compile, explained_refused}
 use Rattle.basv_top.proofs.top.compile_file.Goals as goal

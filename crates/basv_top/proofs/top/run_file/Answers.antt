@@ -1,6 +1,5 @@
 use Rattle.std.proofs.Common.{subst}
 use Rattle.arm2_machine.specs.Image.{ImageOf, ExplainsImage}
-use Rattle.arm2_machine.specs.Words.{AreWords}
 use Rattle.basv_top.specs.declared.top.TheConstants.{GREATEST_BOUND}
 use Rattle.basv_top.specs.Ending.{ended_run}
 use Rattle.basv_top.specs.Top.{GivesImage, ExplainsWords}
@@ -23,7 +22,7 @@ returns-clause-explained g c =
     record {
       bytes = c.in_ok-bytes.bytes.items;
       given = c.in_ok-bytes.ensures.found;
-      are_words = subst AreWords c.as_slice-2.ensures.value c.run_on_board.ensures.are_words;
+      are_words = c.in_ok-words.ensures.are_words;
       is_image = subst (λ bytes. ImageOf bytes words) c.as_slice.ensures.value c.in_ok-words.ensures.ok;
     } in
     let why = subst (λ w. ExplainsWords w (seen_sink g.O.Sink.written g.O.Sink.faults c.args.out.now) (seen_sink g.O.Sink.written g.O.Sink.faults c.run_on_board.new.out) (ended_run c.run_on_board.result GREATEST_BOUND)) c.as_slice-2.ensures.value c.run_on_board.ensures.explained in

@@ -1,0 +1,6 @@
+pub mod Grammar
+pub mod Parsing
+pub mod Refused
+pub mod Meaning
+pub mod Code
+pub mod Correct

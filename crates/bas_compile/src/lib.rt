@@ -1,0 +1,15 @@
+//! The compiler from tokenised BASIC V to images of the board: the grammar both ways, the meaning of programs, and the
+//! agreement of each image with its program.
+#![tactic(auto)]
+
+mod code;
+mod compiler;
+mod item;
+mod laws;
+mod parse;
+mod refusal;
+
+pub use compiler::compile;
+pub use item::{Item, ProgramLine};
+pub use laws::one_verdict;
+pub use refusal::{FILE_BYTES, LONG_FILE, Refusal, Which};
