@@ -1,9 +1,10 @@
 -- What the board's calls say.
-use Rattle.std.specs.Prelude.{◌≡◌, ℕ, ◌+◌, ◌-◌, ◌^◌, ◌≤◌, min, Bool, true, false, List, [], ◌∷◌, refl}
+use Rattle.std.specs.Prelude.{◌≡◌, ℕ, ◌+◌, ◌-◌, ◌^◌, ◌<◌, min, Option, Bool, true, false, List, [], ◌∷◌, refl}
 use Rattle.std.specs.Coded.{Coded, code_by, coded×, coded_ℕ, coded_bool}
 use Rattle.bv_io.specs.declared.report.RunEnd.{RunEnd}
 use Rattle.bv_io.specs.declared.report.RunEnd.TheVariants as ends
 use Rattle.bv_io.specs.Runs.{Turn, Goes, Stops, End, Reports, Breaks, Progress, At, Ended, run}
+use Rattle.bv_io.specs.Sink.{with_bytes, WritesPart}
 use Rattle.arm2_machine.specs.declared.step.Output.{Output}
 use Rattle.arm2_machine.specs.declared.step.Output.TheVariants as outputs
 use Rattle.arm2_machine.specs.declared.step.StepOutcome.{StepOutcome}
@@ -49,11 +50,15 @@ is_end ends.Going = false
 is_end (ends.Over report) = true
 is_end (ends.Broken kind address) = true
 
--- The board has made so many instructions, at most the bound, and counted each. They went on, so that its run has not come
--- to an end of its own.
-pub record HasMade (bound : ℕ) (old new : BoardState) : Type 0 where
+-- The sink failed at an instruction within the bound. Those before it were made and what they write was written; it was made
+-- and counted too, and a first part of what it writes was written.
+pub record HasFaulted (bound : ℕ) (old new : BoardState) (before after : Option (List ℕ)) : Type 0 where
   pub made : ℕ
+  pub machine : Machine
   pub out : List ℕ
-  pub within : made ≤ bound
-  pub stands : run board_step made old.machine [] ≡ At new.machine out
-  pub counted : new.steps ≡ min (old.steps + made) (2 ^ 64 - 1)
+  pub last : List ℕ
+  pub within : made < bound
+  pub stands : run board_step made old.machine [] ≡ At machine out
+  pub goes : board_step machine ≡ Goes new.machine last
+  pub part : WritesPart (with_bytes before out) last after
+  pub counted : new.steps ≡ min (old.steps + (made + 1)) (2 ^ 64 - 1)

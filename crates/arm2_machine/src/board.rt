@@ -55,7 +55,7 @@ const FIRST_REGS: Regs = Regs {
 };
 
 impl Board {
-    ghost use Rattle.arm2_machine.specs.Board.{turn_of, progress_of, is_end, HasMade};
+    ghost use Rattle.arm2_machine.specs.Board.{turn_of, progress_of, is_end, HasFaulted};
 
     /// The board at the start of an image of at most `IMAGE_WORDS` words, with this input.
     pub fn load(alloc: Global, words: &[u32], input: Vec<u8>) -> Result<Board, NoMemory>
@@ -232,11 +232,11 @@ impl Board {
         ensures steps { OnOk result
             (self.new.steps ≡ min (self.old.steps + steps_made board_step bound self.old.machine) (2 ^ 64 - 1)) }
 
-        // After a fault some first part of the run's output was written, and the board stands behind the instruction whose
-        // output it was.
+        // After a fault some first part of the run's output was written, and the board stands behind the instruction at whose
+        // output the sink failed.
         ensures fault { OnErr result
             (WritesPart (O.written out.old) (written_by (run board_step bound self.old.machine [])) (O.written out.new)) }
-        ensures fault_made { OnErr result (HasMade bound self.old self.new) }
+        ensures fault_at { OnErr result (HasFaulted bound self.old self.new (O.written out.old) (O.written out.new)) }
         ensures fault_closes { OnErr result (self.new.closed ≡ true) }
         ensures cause { OnErr result (Rose (O.faults out.old) (O.faults out.new)) }
         ensures faults { O.faults out.old ≤ O.faults out.new }

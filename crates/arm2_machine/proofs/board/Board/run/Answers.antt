@@ -1,7 +1,9 @@
-use Rattle.std.proofs.Common.{◌≤◌, refl, sym, ap, ◌∙◌, ◌-◌, ◌+◌, ◌^◌, [], le_trans, le_refl, arith}
+use Rattle.std.proofs.Common.{◌≤◌, sym, ap, subst, ◌∙◌, ◌-◌, ◌+◌, ◌^◌, [], le_trans, le_refl, arith}
 use Rattle.std.proofs.lemmas.Grind.{common_steps}
-use Rattle.bv_io.specs.Runs.{At, Ended, Reports, Breaks, run, written_by}
+use Rattle.bv_io.specs.Runs.{Goes, Ended, Reports, Breaks, run, written_by}
+use Rattle.bv_io.specs.Sink.{WritesPart}
 use Rattle.bv_io.proofs.Loops.{so_far_starts, so_far_goes, so_far_stops, so_far_ends, so_far_faults}
+use Rattle.arm2_machine.specs.Board.{bytes_of}
 use Rattle.arm2_machine.specs.Step.{board_step}
 use Rattle.arm2_machine.proofs.board.Board.run.Goals as goal
 
@@ -61,13 +63,18 @@ pub returns-in-Err-clause-fault : goal.returns-in-Err-clause-fault
 returns-in-Err-clause-fault g c =
     so_far_faults board_step _ _ _ _ _ _ _ _ c.steps.invariant.so_far (c.args.bound - (c.steps.counter + 1)) _ _ _ (omega arith) c.in-Continued.ensures.value c.in-Err.ensures.part
 
-pub returns-in-Err-clause-fault_made : goal.returns-in-Err-clause-fault_made
-returns-in-Err-clause-fault_made g c =
-    let so = so_far_goes board_step _ _ _ _ _ _ _ _ c.steps.invariant.so_far (c.args.bound - (c.steps.counter + 1)) _ _ _ _ (omega arith) c.in-Continued.ensures.value refl c.step.ensures.steps in
+pub returns-in-Err-clause-fault_at : goal.returns-in-Err-clause-fault_at
+returns-in-Err-clause-fault_at g c =
+    let so = c.steps.invariant.so_far in
+    let last = bytes_of c.in-Continued.output in
     record {
       made = so.made;
+      machine = c.steps.self.machine;
       out = so.bytes;
-      within = omega (arith, so.whole);
-      stands = so.stands ∙ ap (λ b. At b.machine so.bytes) (sym c.self-in-steps.view_is);
-      counted = ap (λ b. b.steps) c.self-in-steps.view_is ∙ so.is_count;
+      last = last;
+      within = omega (arith, so.whole, c.steps-test.true);
+      stands = so.stands;
+      goes = c.in-Continued.ensures.value ∙ ap (λ b. Goes b.machine last) (sym c.self-in-steps.view_is);
+      part = subst (λ w. WritesPart w last (g.O.Sink.written c.write.new.out)) so.same c.in-Err.ensures.part;
+      counted = ap (λ b. b.steps) c.self-in-steps.view_is ∙ omega (arith, c.in-Continued.ensures.steps, so.is_count);
     }
