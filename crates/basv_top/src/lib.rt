@@ -1,8 +1,6 @@
 //! The program `basv` over any shelf and sinks: its commands, their statuses, and their lines on the error output.
 #![tactic(auto)]
 
-#[cfg(test)]
-mod board_tests;
 mod command;
 mod ending;
 mod laws;
@@ -10,8 +8,6 @@ mod limits;
 mod listing;
 mod report;
 mod status;
-#[cfg(test)]
-mod tests;
 mod top;
 
 pub use bas_compile::{Refusal, Which, compile};

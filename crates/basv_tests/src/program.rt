@@ -3,11 +3,9 @@
 
 ghost use Rattle.std.specs.Prelude.{◌<◌, ◌^◌, length};
 
-use crate::laws::basv_in_memory;
-use crate::status::Status;
-use crate::top::basv;
 use arm2_machine::{Board, ImageError, read_image, write_image};
-use bas_compile::{FILE_BYTES, Refusal, Which, compile};
+use bas_compile::{FILE_BYTES, Refusal, compile};
+use basv_top::{Status, basv, basv_in_memory};
 use bv_io::{MemShelf, MemSink, Report, RunEnd, Shelf, Sink, SinkFault, SureShelf, TakeError};
 use sqlite_items::Items;
 use std::alloc::{AllocError, Global};

@@ -1,0 +1,8 @@
+//! Tests across the crates, by their public calls alone. They stand in a crate of their own, since a crate with tests is
+//! proved once more with them.
+#![tactic(auto)]
+
+#[cfg(test)]
+mod board;
+#[cfg(test)]
+mod program;
