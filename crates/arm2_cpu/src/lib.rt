@@ -16,8 +16,6 @@ mod regs;
 mod shifts;
 mod single;
 mod step;
-#[cfg(test)]
-mod tests;
 mod unpredictable;
 
 pub use access::Access;

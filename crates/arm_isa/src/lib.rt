@@ -8,8 +8,6 @@ mod encoding;
 mod fields;
 mod immediates;
 mod instruction;
-#[cfg(test)]
-mod tests;
 
 pub use classes::{Class, class_of};
 pub use decoding::decode;

@@ -9,8 +9,6 @@ mod scan;
 mod sign;
 pub mod sign_numbers;
 mod symbol;
-#[cfg(test)]
-mod tests;
 mod text;
 mod token;
 

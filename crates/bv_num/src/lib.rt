@@ -4,8 +4,6 @@
 mod arithmetic;
 mod digits;
 mod shifts;
-#[cfg(test)]
-mod tests;
 mod value;
 
 pub use arithmetic::{DIVISION_BY_ZERO, TOO_BIG, abs, add, div, mul, neg, rem, sub};

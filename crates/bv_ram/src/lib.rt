@@ -5,6 +5,3 @@ mod block;
 mod ram;
 
 pub use ram::Ram;
-
-#[cfg(test)]
-mod tests;

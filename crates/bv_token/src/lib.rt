@@ -3,8 +3,6 @@
 
 mod line;
 mod reference;
-#[cfg(test)]
-mod tests;
 mod tokens;
 
 pub use line::LONGEST_TEXT;

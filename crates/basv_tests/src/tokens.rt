@@ -1,7 +1,6 @@
 //! Values from the tables of tokens and of references themselves.
 
-use crate::reference::{line_ref, write_ref};
-use crate::tokens::{begins_pair, keyword};
+use bv_token::{begins_pair, keyword, line_ref, write_ref};
 use std::test::Fail;
 
 fn is_keyword(first: u8, second: u8, word: &str) -> bool {

@@ -1,12 +1,11 @@
 //! Texts and their symbols, by hand from the rules of the language.
 
-use crate::scan::symbols;
-use crate::sign_numbers::{
+use bas_lex::sign_numbers::{
     CLOSE_SQUARE, COLON, COMMA, DOLLAR, EQUALS, GREATER, GREATER_OR_EQUAL, LESS, LESS_OR_EQUAL,
     MINUS_EQUALS, NOT_EQUAL, OPEN_ROUND, OPEN_SQUARE, PLUS, PLUS_EQUALS, SEMICOLON, SHIFT_LEFT,
     SHIFT_RIGHT, SHIFT_RIGHT_SIGNED,
 };
-use crate::symbol::{LexError, NO_SUFFIX, Sym, SymKind};
+use bas_lex::{LexError, NO_SUFFIX, Sym, SymKind, symbols};
 use bv_token::{LONGEST_TEXT, REM};
 use std::alloc::Global;
 use std::test::Fail;

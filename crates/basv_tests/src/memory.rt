@@ -1,6 +1,8 @@
+//! A memory of raw bytes, written in all ways.
+
 ghost use Rattle.std.specs.Prelude.{◌≡◌, length};
 
-use crate::Ram;
+use bv_ram::Ram;
 
 fn put_all(ram: &mut Ram)
     requires { length ram.old ≡ 16 }

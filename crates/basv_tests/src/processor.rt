@@ -1,7 +1,9 @@
+//! The processor over a small memory. The steps that were worked by hand are in the input of the program `arm2_vectors`.
+
 ghost use Rattle.arm2_cpu.specs.Registers.{IsValidRegs};
 
-use crate::tests::small_ram::{BASE, small_ram};
-use crate::{CpuEvent, Regs, step_cpu};
+use crate::small_ram::{BASE, small_ram};
+use arm2_cpu::{CpuEvent, Regs, step_cpu};
 
 /// The registers of user mode before an instruction at the memory's start. R1 is an address in the memory.
 fn registers() -> Regs
@@ -19,7 +21,7 @@ fn registers() -> Regs
     }
 }
 
-// A load and a store of a byte. The steps that were worked by hand are in the input of the program `arm2_vectors`.
+// A load and a store of a byte.
 #[test]
 fn loads_and_stores(rt: HostRuntime) {
     // LDR R0,[R1].

@@ -1,6 +1,6 @@
 //! Tables of values that the language itself gives.
 
-use crate::{
+use bv_num::{
     DIVISION_BY_ZERO, ShiftKind, TOO_BIG, abs, add, data_value, decimal, div, hex, mul, neg, rem,
     shift, sub, value_of,
 };

@@ -1,4 +1,6 @@
-use crate::{Class, Instr, class_of, decode, encode, immediate};
+//! Words and their instructions, from the table of classes.
+
+use arm_isa::{Class, Instr, class_of, decode, encode, immediate};
 
 #[test]
 fn decodes_a_move(rt: HostRuntime) {

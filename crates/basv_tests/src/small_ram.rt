@@ -2,7 +2,7 @@ ghost use Rattle.std.specs.Prelude.{◌≡◌, ◌<◌, ◌≤◌, ◌+◌, ◌%
 ghost use Rattle.arm2_cpu.specs.Memory.{word_at, with_word};
 ghost use Rattle.arm2_cpu.specs.Window.{window};
 
-use crate::Memory;
+use arm2_cpu::Memory;
 
 /// The address of the first byte.
 pub const BASE: u32 = 0x8000;
@@ -37,7 +37,7 @@ fn allows(user: bool, at: u32) -> bool
 impl SmallRam {
     ghost use Rattle.std.specs.Prelude.{◌≡◌, ◌<◌, ◌≤◌, ◌+◌, length};
 
-    #[tactic(auto, unfolding(crate::specs::Memory::word_at, crate::specs::Memory::byte_at))]
+    #[tactic(auto, unfolding(arm2_cpu::specs::Memory::word_at, arm2_cpu::specs::Memory::byte_at))]
     pub fn get(&self, at: u32) -> u32
         requires from { BASE ≤ at }
         requires to { at + 3 < END }
@@ -50,7 +50,7 @@ impl SmallRam {
             + (u32::from(self.bytes[i + 3]) << 24)
     }
 
-    #[tactic(auto, using(crate::proofs::MemoryLaws::with_word_by_sets))]
+    #[tactic(auto, using(arm2_cpu::proofs::MemoryLaws::with_word_by_sets))]
     pub fn put(&mut self, at: u32, value: u32)
         requires from { BASE ≤ at }
         requires to { at + 3 < END }
@@ -75,7 +75,7 @@ impl Memory for SmallRam {
 
     ghost bytes = { λ m. m.bytes };
 
-    #[tactic(auto, unfolding(crate::specs::Memory::read_word))]
+    #[tactic(auto, unfolding(arm2_cpu::specs::Memory::read_word))]
     fn word(&self, user: bool, at: u32) -> Option<u32> {
         if allows(user, at) {
             Some(self.get(at))
@@ -84,7 +84,7 @@ impl Memory for SmallRam {
         }
     }
 
-    #[tactic(auto, unfolding(crate::specs::Memory::read_byte, crate::specs::Memory::byte_at))]
+    #[tactic(auto, unfolding(arm2_cpu::specs::Memory::read_byte, arm2_cpu::specs::Memory::byte_at))]
     fn byte(&self, user: bool, at: u32) -> Option<u8> {
         if allows(user, at) {
             Some(self.bytes[(at - BASE) as usize])
@@ -93,7 +93,7 @@ impl Memory for SmallRam {
         }
     }
 
-    #[tactic(auto, unfolding(crate::specs::Memory::wrote_word))]
+    #[tactic(auto, unfolding(arm2_cpu::specs::Memory::wrote_word))]
     fn set_word(&mut self, user: bool, at: u32, v: u32) -> bool {
         let allowed = allows(user, at);
         if allowed {
@@ -102,7 +102,7 @@ impl Memory for SmallRam {
         allowed
     }
 
-    #[tactic(auto, using(crate::proofs::MemoryLaws::with_byte_by_set), unfolding(crate::specs::Memory::wrote_byte))]
+    #[tactic(auto, using(arm2_cpu::proofs::MemoryLaws::with_byte_by_set), unfolding(arm2_cpu::specs::Memory::wrote_byte))]
     fn set_byte(&mut self, user: bool, at: u32, v: u8) -> bool {
         let allowed = allows(user, at);
         if allowed {

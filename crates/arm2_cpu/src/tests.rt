@@ -1,2 +1,0 @@
-mod small_ram;
-mod steps;
