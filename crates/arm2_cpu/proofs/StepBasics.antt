@@ -1,7 +1,7 @@
 -- One instruction at the PC: what is fetched, its condition, and its class.
 use Rattle.std.proofs.Common.{◌≡◌, ℕ, not, true, false, if◌then◌else◌, List, Some, None, refl, sym, ap, ◌∙◌}
 use Rattle.std.proofs.lemmas.Bool.{cond-true, cond-false}
-use Rattle.bv_io.specs.declared.report.Trap.TheVariants as traps
+use Rattle.bv_run.specs.declared.report.Trap.TheVariants as traps
 use Rattle.arm_isa.specs.declared.classes.Class.{Class}
 use Rattle.arm_isa.specs.declared.classes.Class.TheVariants as classes
 use Rattle.arm_isa.specs.declared.instruction.Instr.{Instr}

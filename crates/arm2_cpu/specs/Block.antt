@@ -1,6 +1,6 @@
 -- LDM and STM (VL86C010 (ARM2) data manual, block data transfer).
 use Rattle.std.specs.Prelude.{ℕ, zero, suc, ◌+◌, ◌*◌, ◌%◌, ◌^◌, ◌==◌, ◌&&◌, not, Bool, false, if◌then◌else◌, List, [], ◌∷◌, length, Option, Some, None}
-use Rattle.bv_io.specs.declared.report.Trap.TheVariants as traps
+use Rattle.bv_run.specs.declared.report.Trap.TheVariants as traps
 use Rattle.arm2_cpu.specs.declared.access.Access.{Access}
 use Rattle.arm2_cpu.specs.declared.regs.Regs.{Regs}
 use Rattle.arm2_cpu.specs.declared.regs.TheConstants.{R15}

@@ -6,7 +6,7 @@ use crate::event::CpuEvent;
 use crate::operands::amount_operand;
 use crate::regs::Regs;
 use arm_isa::OPERANDS;
-use bv_io::Trap;
+use bv_run::Trap;
 
 /// Which address a transfer begins at, and what its base register takes.
 #[derive(Clone, Copy)]

@@ -10,7 +10,7 @@ use crate::conditions::has_bit;
 use crate::event::CpuEvent;
 use crate::memory::Memory;
 use crate::regs::{PC_END, R15, Regs};
-use bv_io::Trap;
+use bv_run::Trap;
 
 /// Whether a list has a register.
 fn is_listed(list: u16, n: u8) -> bool

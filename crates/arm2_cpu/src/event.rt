@@ -1,4 +1,4 @@
-use bv_io::Trap;
+use bv_run::Trap;
 
 /// What one instruction came to.
 #[derive(Clone, Copy, Debug, PartialEq, Eq)]

@@ -16,7 +16,7 @@ use crate::regs::Regs;
 use crate::single::transfer_single;
 use crate::unpredictable::is_unpredictable;
 use arm_isa::{Instr, decode};
-use bv_io::Trap;
+use bv_run::Trap;
 
 #[tactic(auto, unfolding(crate::specs::Step::class_step))]
 /// Carries out an instruction of a class that uses no memory.

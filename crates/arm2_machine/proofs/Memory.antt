@@ -1,10 +1,10 @@
 -- The memory of a loaded image: its words stand where they were put, and the arena is all zero.
 use Rattle.std.proofs.Common.{◌≡◌, ℕ, ◌+◌, ◌-◌, ◌*◌, ◌/◌, ◌%◌, ◌^◌, ◌<◌, ◌≤◌, List, [], ◌∷◌, ◌++◌, length, take, drop, flat_map, slice_index, Some, None, true, false, ◌&&◌, nat_le, nat_lt, le-leb, lt-ltb, add-zero, if◌then◌else◌, refl, sym, ap, subst, ◌∙◌, arith, append_assoc, length-append}
 use Rattle.std.proofs.lemmas.Grind.{common_steps}
-use Rattle.bv_io.specs.declared.memory_map.TheConstants.{ARENA_START, ARENA_BYTES, ARENA_END}
-use Rattle.bv_io.specs.Bytes.{zeros}
-use Rattle.bv_io.proofs.Zeros.{length-zeros, zeros-add}
-use Rattle.arm2_machine.specs.declared.layout.TheConstants.{RAM_END, IMAGE_START, IMAGE_WORDS}
+use Rattle.bv_base.specs.Limits.{image_words}
+use Rattle.bv_base.specs.MemoryMap.{ram_end, arena_start, arena_end, arena_bytes, image_start}
+use Rattle.bv_base.specs.Bytes.{zeros}
+use Rattle.bv_base.proofs.Zeros.{length-zeros, zeros-add}
 use Rattle.bv_ram.specs.Words.{put_at, word_at as bytes_word}
 use Rattle.arm2_cpu.specs.Memory.{byte_at, word_at, with_bytes, read_word}
 use Rattle.arm2_machine.specs.Words.{word_bytes, AreWords}
@@ -21,9 +21,9 @@ lengths start more rest words short is =
     ∙ (λ i. start + (length-flat_map-word_bytes words i + length-zeros rest i))
     ∙ omega (arith, short, is)
 
-pub loaded_ram_length : (words : List ℕ) → length words ≤ IMAGE_WORDS → length (loaded_ram words) ≡ RAM_END
+pub loaded_ram_length : (words : List ℕ) → length words ≤ image_words → length (loaded_ram words) ≡ ram_end
 unfolding loaded_ram
-loaded_ram_length words short = lengths IMAGE_START ((RAM_END - IMAGE_START) / 4) (RAM_END - IMAGE_START - 4 * length words) words (omega arith) refl
+loaded_ram_length words short = lengths image_start ((ram_end - image_start) / 4) (ram_end - image_start - 4 * length words) words (omega arith) refl
 
 drop_front : (xs ys : List ℕ) (n : ℕ) → length xs ≡ n → drop n (xs ++ ys) ≡ ys
 drop_front xs ys n is = grind (arith, common_steps)
@@ -32,7 +32,7 @@ take_front : (xs ys : List ℕ) (n : ℕ) → length xs ≡ n → take n (xs ++ 
 take_front xs ys n is = grind (arith, common_steps)
 
 -- the bytes of an image's words lie in the RAM
-pub bytes_of_words : (words : List ℕ) → length words ≤ IMAGE_WORDS → IMAGE_START + length (flat_map word_bytes words) ≤ RAM_END
+pub bytes_of_words : (words : List ℕ) → length words ≤ image_words → image_start + length (flat_map word_bytes words) ≤ ram_end
 bytes_of_words words short = omega (arith, short, length-flat_map-word_bytes words)
 
 take_zeros : (n m : ℕ) → take n (zeros (n + m)) ≡ zeros n
@@ -51,10 +51,10 @@ zeros_with before size all bytes is fits =
     ∙ (λ i. take_zeros before (all - before) i ++ (bytes ++ drop_zeros (before + size) (all - before - size) i))
 
 -- the words of an image among zeros
-pub zeros_with_words : (words : List ℕ) → length words ≤ IMAGE_WORDS → put_at (zeros RAM_END) IMAGE_START (flat_map word_bytes words) ≡ loaded_ram words
+pub zeros_with_words : (words : List ℕ) → length words ≤ image_words → put_at (zeros ram_end) image_start (flat_map word_bytes words) ≡ loaded_ram words
 unfolding loaded_ram
 zeros_with_words words short =
-    zeros_with IMAGE_START (4 * length words) RAM_END (flat_map word_bytes words) (length-flat_map-word_bytes words) (omega (arith, short))
+    zeros_with image_start (4 * length words) ram_end (flat_map word_bytes words) (length-flat_map-word_bytes words) (omega (arith, short))
 
 -- a part that lies in the middle of zeros
 middle : (before part after : ℕ) (rest : List ℕ) → take part (drop before (zeros (before + (part + after)) ++ rest)) ≡ zeros part
@@ -66,9 +66,9 @@ middle before part after rest =
     ∙ take_front (zeros part) _ part (length-zeros part)
 
 -- the arena of a loaded image is all zero
-pub arena_of-loaded_ram : (words : List ℕ) → arena_of (loaded_ram words) ≡ zeros ARENA_BYTES
+pub arena_of-loaded_ram : (words : List ℕ) → arena_of (loaded_ram words) ≡ zeros arena_bytes
 unfolding loaded_ram arena_of
-arena_of-loaded_ram words = middle ARENA_START ARENA_BYTES (IMAGE_START - ARENA_END) _
+arena_of-loaded_ram words = middle arena_start arena_bytes (image_start - arena_end) _
 
 -- the words stand from an address on
 abbrev pub HasAt : List ℕ → ℕ → List ℕ → Type 0
@@ -84,10 +84,10 @@ slice_index-append : (front back : List ℕ) (a k : ℕ) → length front ≡ a 
 slice_index-append front back a k is = grind (arith, common_steps)
 
 -- the supervisor may use all of the RAM
-allowed : (a : ℕ) → a < RAM_END → board_space.allows false a ≡ true
+allowed : (a : ℕ) → a < ram_end → board_space.allows false a ≡ true
 allowed a inside =
     let low : nat_le 0 a ≡ true = le-leb 0 a (omega arith) in
-    let high : nat_lt a (0 + RAM_END) ≡ true = lt-ltb a RAM_END inside in
+    let high : nat_lt a (0 + ram_end) ≡ true = lt-ltb a ram_end inside in
     (λ i. low i && high i)
 
 -- the RAM begins at address 0
@@ -110,12 +110,12 @@ same_put ram a new =
     let e : a - 0 ≡ a = omega arith in
     (λ i. take (e i) ram ++ new ++ drop (e i + length new) ram)
 
-fetched-is : (ram : List ℕ) (a : ℕ) → a < RAM_END → fetched ram a ≡ Some (word_at board_space ram a)
+fetched-is : (ram : List ℕ) (a : ℕ) → a < ram_end → fetched ram a ≡ Some (word_at board_space ram a)
 unfolding read_word
 fetched-is ram a inside = ap (λ b. if b then Some (word_at board_space ram a) else None) (allowed a inside)
 
 -- a word is fetched where its bytes stand
-fetched_at : (front back : List ℕ) (a w : ℕ) → length front ≡ a → a < RAM_END → w < 2 ^ 32 → fetched (front ++ (word_bytes w ++ back)) a ≡ Some w
+fetched_at : (front back : List ℕ) (a w : ℕ) → length front ≡ a → a < ram_end → w < 2 ^ 32 → fetched (front ++ (word_bytes w ++ back)) a ≡ Some w
 fetched_at front back a w is inside small =
     let ram = front ++ (word_bytes w ++ back) in
     let first : slice_index ram a ≡ w % 256 = ap (slice_index ram) (sym (add-zero a)) ∙ slice_index-append front _ a 0 is in
@@ -125,7 +125,7 @@ fetched_at front back a w is inside small =
     ∙ omega (arith, word_from_bytes w small))
 
 -- words stand where their bytes were put
-has_at : (words front back : List ℕ) (a : ℕ) → length front ≡ a → a + 4 * length words ≤ RAM_END → AreWords words → HasAt (front ++ (flat_map word_bytes words ++ back)) a words
+has_at : (words front back : List ℕ) (a : ℕ) → length front ≡ a → a + 4 * length words ≤ ram_end → AreWords words → HasAt (front ++ (flat_map word_bytes words ++ back)) a words
 has_at [] front back a is inside small = tt
 has_at (w ∷ ws) front back a is inside small = (
   ap (λ l. fetched (front ++ l) a) (append_assoc (word_bytes w) (flat_map word_bytes ws) back) ∙ fetched_at front (flat_map word_bytes ws ++ back) a w is (omega (arith, inside)) small.0,
@@ -135,9 +135,9 @@ has_at (w ∷ ws) front back a is inside small = (
 )
 
 -- the words of a loaded image stand in its memory
-pub loaded_has : (words : List ℕ) → length words ≤ IMAGE_WORDS → AreWords words → HasAt (loaded_ram words) IMAGE_START words
+pub loaded_has : (words : List ℕ) → length words ≤ image_words → AreWords words → HasAt (loaded_ram words) image_start words
 unfolding loaded_ram
-loaded_has words short small = has_at words (zeros IMAGE_START) _ IMAGE_START (length-zeros IMAGE_START) (omega (arith, short)) small
+loaded_has words short small = has_at words (zeros image_start) _ image_start (length-zeros image_start) (omega (arith, short)) small
 
 pub has_front : (ram : List ℕ) (a : ℕ) (ws vs : List ℕ) → HasAt ram a (ws ++ vs) → HasAt ram a ws
 has_front ram a [] vs h = tt

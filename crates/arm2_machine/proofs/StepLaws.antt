@@ -1,7 +1,7 @@
 -- What the board does at each instruction that the compiler writes. They are made in supervisor mode.
 use Rattle.std.proofs.Common.{◌≡◌, ℕ, ◌+◌, ◌*◌, ◌%◌, ◌<◌, ◌==◌, ◌&&◌, not, true, false, if◌then◌else◌, [], ◌∷◌, slice_index, Some, refl, ap, ◌∙◌, arith, eq-eqb, lt-ltb}
-use Rattle.bv_io.specs.declared.report.Report.TheVariants.{Done}
-use Rattle.bv_io.specs.Runs.{Goes, Stops, Reports}
+use Rattle.bv_run.specs.declared.report.Report.TheVariants.{Done}
+use Rattle.bv_run.specs.Runs.{Goes, Ends, Over}
 use Rattle.arm_isa.specs.declared.instruction.Instr.{Instr}
 use Rattle.arm_isa.specs.declared.instruction.Instr.TheVariants.{Data, Swi}
 use Rattle.arm_isa.specs.Words.{means, word_of}
@@ -18,14 +18,14 @@ use Rattle.arm2_cpu.proofs.RegisterLaws.{holds-always}
 use Rattle.arm2_cpu.proofs.StepBasics.{Fetches}
 use Rattle.arm2_cpu.proofs.StepLaws.{step-mov_immediate, step-swi}
 use Rattle.arm2_machine.specs.declared.calls.TheConstants.{SWI_WRITE, SWI_END}
-use Rattle.arm2_machine.specs.declared.layout.TheConstants.{PAD, RETURN_ENTRY}
+use Rattle.bv_base.specs.MemoryMap.{pad, return_entry}
 use Rattle.arm2_machine.specs.Machine.{Machine, board_space, fetched}
 use Rattle.arm2_machine.specs.Step.{entered, with_low, called, instructed, board_step}
 
 -- supervisor mode makes the processor's instruction
 supervised : (m : Machine) (s : Stepped) → m.regs.svc ≡ true → cpu_step board_space m.regs m.ram ≡ s → board_step m ≡ instructed m s
 unfolding board_step
-supervised m s svc is = (λ i. if not (svc i) && m.regs.pc == PAD then Goes (record m { regs = entered m.regs RETURN_ENTRY }) [] else instructed m (is i))
+supervised m s svc is = (λ i. if not (svc i) && m.regs.pc == pad then Goes (record m { regs = entered m.regs return_entry }) [] else instructed m (is i))
 
 -- an instruction that supervisor mode fetches
 fetches : (m : Machine) (i : Instr) (w : ℕ) → m.regs.svc ≡ true → fetched m.ram m.regs.pc ≡ Some w → means w ≡ i → Fetches board_space m.regs m.ram i
@@ -59,9 +59,9 @@ step_call m number small svc at = supervised m _ svc (step-swi board_space m.reg
 pub step_write : (m : Machine) → m.regs.svc ≡ true → fetched m.ram m.regs.pc ≡ Some 0xef000000 → board_step m ≡ Goes (record m { regs = at_next m.regs }) ((slice_index m.regs.low 0 % 256) ∷ [])
 step_write m svc at = step_call m SWI_WRITE (omega arith) svc at
 
-called_end : (m : Machine) (at : ℕ) → m.regs.svc ≡ true → slice_index m.regs.low 0 ≡ 0 → called m at SWI_END ≡ Stops m [] (Reports Done)
+called_end : (m : Machine) (at : ℕ) → m.regs.svc ≡ true → slice_index m.regs.low 0 ≡ 0 → called m at SWI_END ≡ Ends m [] (Over Done)
 called_end m at svc zero = rw svc (rw (eq-eqb (slice_index m.regs.low 0) 0 zero) refl)
 
 -- SWI &11 with R0 = 0 ends the run as done
-pub step_done : (m : Machine) → slice_index m.regs.low 0 ≡ 0 → m.regs.svc ≡ true → fetched m.ram m.regs.pc ≡ Some 0xef000011 → board_step m ≡ Stops (record m { regs = at_next m.regs }) [] (Reports Done)
+pub step_done : (m : Machine) → slice_index m.regs.low 0 ≡ 0 → m.regs.svc ≡ true → fetched m.ram m.regs.pc ≡ Some 0xef000011 → board_step m ≡ Ends (record m { regs = at_next m.regs }) [] (Over Done)
 step_done m zero svc at = step_call m SWI_END (omega arith) svc at ∙ called_end (record m { regs = at_next m.regs }) m.regs.pc svc zero

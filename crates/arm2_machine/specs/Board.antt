@@ -1,9 +1,9 @@
 -- What the board's calls say.
 use Rattle.std.specs.Prelude.{◌≡◌, ℕ, ◌+◌, ◌-◌, ◌^◌, ◌<◌, min, Option, Bool, true, false, List, [], ◌∷◌, refl}
 use Rattle.std.specs.Coded.{Coded, code_by, coded×, coded_ℕ, coded_bool}
-use Rattle.bv_io.specs.declared.report.RunEnd.{RunEnd}
-use Rattle.bv_io.specs.declared.report.RunEnd.TheVariants as ends
-use Rattle.bv_io.specs.Runs.{Turn, Goes, Stops, End, Reports, Breaks, Progress, At, Ended, run}
+use Rattle.bv_run.specs.declared.report.RunEnd.{RunEnd}
+use Rattle.bv_run.specs.declared.report.RunEnd.TheVariants as ends
+use Rattle.bv_run.specs.Runs.{Turn, Goes, Ends, End, Over, Broken, Progress, Going, Ended, run}
 use Rattle.bv_io.specs.Sink.{with_bytes, WritesPart}
 use Rattle.arm2_machine.specs.declared.step.Output.{Output}
 use Rattle.arm2_machine.specs.declared.step.Output.TheVariants as outputs
@@ -35,14 +35,14 @@ bytes_of outputs.NewLine = 10 ∷ 13 ∷ []
 -- a step by what it answers and the state that it leaves
 abbrev pub turn_of : StepOutcome → Machine → Turn Machine End
 turn_of (outcomes.Continued output) m = Goes m (bytes_of output)
-turn_of (outcomes.Over report) m = Stops m [] (Reports report)
-turn_of (outcomes.Broken kind address) m = Stops m [] (Breaks kind address)
+turn_of (outcomes.Over report) m = Ends m [] (Over report)
+turn_of (outcomes.Broken kind address) m = Ends m [] (Broken kind address)
 
 -- a run by its answer, the state that it leaves, and what it wrote
 abbrev pub progress_of : RunEnd → Machine → List ℕ → Progress Machine End
-progress_of ends.Going m out = At m out
-progress_of (ends.Over report) m out = Ended m out (Reports report)
-progress_of (ends.Broken kind address) m out = Ended m out (Breaks kind address)
+progress_of ends.Going m out = Going m out
+progress_of (ends.Over report) m out = Ended m out (Over report)
+progress_of (ends.Broken kind address) m out = Ended m out (Broken kind address)
 
 -- a board is closed once its run has come to an end
 abbrev pub is_end : RunEnd → Bool
@@ -58,7 +58,7 @@ pub record HasFaulted (bound : ℕ) (old new : BoardState) (before after : Optio
   pub out : List ℕ
   pub last : List ℕ
   pub within : made < bound
-  pub stands : run board_step made old.machine [] ≡ At machine out
+  pub stands : run board_step made old.machine [] ≡ Going machine out
   pub goes : board_step machine ≡ Goes new.machine last
   pub part : WritesPart (with_bytes before out) last after
   pub counted : new.steps ≡ min (old.steps + (made + 1)) (2 ^ 64 - 1)

@@ -3,13 +3,13 @@ use Rattle.std.specs.Prelude.{◌≡◌, ◌≢◌, ℕ, ◌+◌, ◌*◌, ◌<�
 use Rattle.arm2_machine.specs.declared.image.ImageError.{ImageError}
 use Rattle.arm2_machine.specs.declared.image.ImageError.TheVariants as errors
 use Rattle.arm2_machine.specs.declared.image.TheConstants.{MAGIC}
-use Rattle.arm2_machine.specs.declared.layout.TheConstants.{IMAGE_WORDS}
+use Rattle.bv_base.specs.Limits.{image_words}
 use Rattle.arm2_machine.specs.Words.{word_bytes, word_at, AreWords}
 
 -- The bytes BVA2, the number of words, and the words, each with its lowest byte first.
 pub record ImageOf (bytes words : List ℕ) : Type 0 where
   pub spelled : bytes ≡ MAGIC ++ (word_bytes (length words) ++ flat_map word_bytes words)
-  pub short : length words ≤ IMAGE_WORDS
+  pub short : length words ≤ image_words
 
 -- the number of words that a file says it has
 abbrev pub word_count : List ℕ → ℕ
@@ -26,19 +26,19 @@ pub record MagicEnds (bytes : List ℕ) (at : ℕ) : Type 0 where
 pub data NotImage (bytes : List ℕ) (at : ℕ) : Type 0 where
   Unlike : MagicEnds bytes at → at < 4 → NotImage bytes at
   CutOff : MagicEnds bytes 4 → length bytes < 8 → at ≡ length bytes → NotImage bytes at
-  OtherEnd : MagicEnds bytes 4 → 8 ≤ length bytes → word_count bytes ≤ IMAGE_WORDS → length bytes ≢ 8 + 4 * word_count bytes → at ≡ min (length bytes) (8 + 4 * word_count bytes) → NotImage bytes at
+  OtherEnd : MagicEnds bytes 4 → 8 ≤ length bytes → word_count bytes ≤ image_words → length bytes ≢ 8 + 4 * word_count bytes → at ≡ min (length bytes) (8 + 4 * word_count bytes) → NotImage bytes at
 
 -- the bytes begin an image of too many words
 pub record IsTooLong (bytes : List ℕ) : Type 0 where
   pub magic : MagicEnds bytes 4
   pub whole : 8 ≤ length bytes
-  pub long : IMAGE_WORDS < word_count bytes
+  pub long : image_words < word_count bytes
 
 -- the bytes have the magic, a number of words, and as many bytes behind it as the words have
 pub record IsWhole (bytes : List ℕ) (count : ℕ) : Type 0 where
   pub magic : MagicEnds bytes 4
   pub is_count : count ≡ word_count bytes
-  pub fits : count ≤ IMAGE_WORDS
+  pub fits : count ≤ image_words
   pub ends : length bytes ≡ 8 + 4 * count
 
 -- when each error comes: want of memory is free

@@ -2,21 +2,20 @@
 use Rattle.std.specs.Prelude.{ℕ, ◌-◌, ◌*◌, Bool, true, false, List, ◌++◌, length, take, drop, flat_map, replicate, Option, refl}
 use Rattle.std.specs.Coded.{Coded, code_by, coded×, coded_ℕ, coded_bool, coded_list}
 use Rattle.std.proofs.Common.{lit≤}
-use Rattle.bv_io.specs.declared.memory_map.TheConstants.{ARENA_START, ARENA_END, ARENA_BYTES}
-use Rattle.bv_io.specs.Bytes.{zeros}
+use Rattle.bv_base.specs.MemoryMap.{ram_end, arena_start, arena_end, arena_bytes, image_start}
+use Rattle.bv_base.specs.Bytes.{zeros}
 use Rattle.arm2_cpu.specs.declared.regs.Regs.{Regs}
 use Rattle.arm2_cpu.specs.Memory.{Space, IsLawful, read_word}
 use Rattle.arm2_cpu.specs.Window.{window}
 use Rattle.arm2_cpu.specs.WindowLaws.{window-lawful}
-use Rattle.arm2_machine.specs.declared.layout.TheConstants.{RAM_END, IMAGE_START}
 use Rattle.arm2_machine.specs.Words.{word_bytes}
 
 -- the RAM, of which user mode may use the arena alone
 abbrev pub board_space : Space
-board_space = window 0 RAM_END ARENA_START ARENA_END
+board_space = window 0 ram_end arena_start arena_end
 
 pub board_space-lawful : IsLawful board_space
-board_space-lawful = window-lawful 0 RAM_END ARENA_START ARENA_END refl refl refl refl (lit≤ tt) (lit≤ tt)
+board_space-lawful = window-lawful 0 ram_end arena_start arena_end refl refl refl refl (lit≤ tt) (lit≤ tt)
 
 -- the word that the supervisor fetches at an address
 abbrev pub fetched : List ℕ → ℕ → Option ℕ
@@ -47,11 +46,11 @@ machine_code =
 -- The memory with these words from an image's place on, and 0 elsewhere. It stays closed, so that no proof counts
 -- through a memory.
 unfoldable pub loaded_ram : List ℕ → List ℕ
-loaded_ram words = zeros IMAGE_START ++ (flat_map word_bytes words ++ zeros (RAM_END - IMAGE_START - 4 * length words))
+loaded_ram words = zeros image_start ++ (flat_map word_bytes words ++ zeros (ram_end - image_start - 4 * length words))
 
 -- the registers at the start of a run: all 0, no flag set, in supervisor mode at the image's first word
 abbrev pub first_regs : Regs
-first_regs = record { low = replicate 13 0; user13 = 0; user14 = 0; svc13 = 0; svc14 = 0; pc = IMAGE_START; psr = 0; svc = true }
+first_regs = record { low = replicate 13 0; user13 = 0; user14 = 0; svc13 = 0; svc14 = 0; pc = image_start; psr = 0; svc = true }
 
 -- the board at its start
 abbrev pub loaded : List ℕ → List ℕ → Machine
@@ -59,4 +58,4 @@ loaded words input = record { regs = first_regs; ram = loaded_ram words; input =
 
 -- the arena's bytes
 unfoldable pub arena_of : List ℕ → List ℕ
-arena_of ram = take ARENA_BYTES (drop ARENA_START ram)
+arena_of ram = take arena_bytes (drop arena_start ram)

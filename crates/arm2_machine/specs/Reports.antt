@@ -1,10 +1,10 @@
 -- Reports and traps by their numbers. This project's own.
 use Rattle.std.specs.Prelude.{ℕ, ◌%◌, ◌==◌, if◌then◌else◌, List, slice_index, Option, Some, None}
 use Rattle.std.specs.Int.{w32, cast_signed}
-use Rattle.bv_io.specs.declared.report.Report.{Report}
-use Rattle.bv_io.specs.declared.report.Report.TheVariants as reports
-use Rattle.bv_io.specs.declared.report.Trap.{Trap}
-use Rattle.bv_io.specs.declared.report.Trap.TheVariants as traps
+use Rattle.bv_run.specs.declared.report.Report.{Report}
+use Rattle.bv_run.specs.declared.report.Report.TheVariants as reports
+use Rattle.bv_run.specs.declared.report.Trap.{Trap}
+use Rattle.bv_run.specs.declared.report.Trap.TheVariants as traps
 
 -- the number of a trap's kind
 abbrev pub trap_number : Trap → ℕ

@@ -1,17 +1,17 @@
 -- One instruction of the board, and its run under a bound. The calls, the entries and the reports are this project's own.
 use Rattle.std.specs.Prelude.{ℕ, ◌+◌, ◌-◌, ◌%◌, ◌^◌, ◌==◌, ◌&&◌, nat_le, nat_lt, not, Bool, true, if◌then◌else◌, List, [], ◌∷◌, slice_index, slice_set, Option, Some, None}
-use Rattle.bv_io.specs.declared.report.Report.{Report}
-use Rattle.bv_io.specs.declared.report.Trap.{Trap}
-use Rattle.bv_io.specs.declared.report.Trap.TheVariants as traps
-use Rattle.bv_io.specs.Outcome.{Outcome}
-use Rattle.bv_io.specs.Runs.{Turn, Goes, Stops, End, Reports, Breaks, run, shown}
+use Rattle.bv_run.specs.declared.report.Report.{Report}
+use Rattle.bv_run.specs.declared.report.Trap.{Trap}
+use Rattle.bv_run.specs.declared.report.Trap.TheVariants as traps
+use Rattle.bv_run.specs.Outcome.{Outcome}
+use Rattle.bv_run.specs.Runs.{Turn, Goes, Ends, End, Over, Broken, run, outcome_of}
 use Rattle.arm2_cpu.specs.declared.event.CpuEvent.{CpuEvent}
 use Rattle.arm2_cpu.specs.declared.event.CpuEvent.TheVariants as events
 use Rattle.arm2_cpu.specs.declared.regs.Regs.{Regs}
 use Rattle.arm2_cpu.specs.Outcomes.{Stepped}
 use Rattle.arm2_cpu.specs.Step.{cpu_step}
 use Rattle.arm2_machine.specs.declared.calls.TheConstants.{SWI_WRITE, SWI_NEW_LINE, SWI_READ, SWI_END, SWI_CHARACTER}
-use Rattle.arm2_machine.specs.declared.layout.TheConstants.{PAD, RETURN_ENTRY, TRAP_ENTRY}
+use Rattle.bv_base.specs.MemoryMap.{pad, return_entry, trap_entry}
 use Rattle.arm2_machine.specs.Machine.{Machine, board_space, loaded, arena_of}
 use Rattle.arm2_machine.specs.Reports.{trap_number, report_of}
 
@@ -27,8 +27,8 @@ with_low r n value = record r { low = slice_set r.low n value }
 -- run.
 abbrev pub trapped : Machine → Trap → ℕ → Turn Machine End
 trapped m kind address =
-    if m.regs.svc then Stops m [] (Breaks kind address)
-    else Goes (record m { regs = entered (with_low (with_low m.regs 0 (trap_number kind)) 1 address) TRAP_ENTRY }) []
+    if m.regs.svc then Ends m [] (Broken kind address)
+    else Goes (record m { regs = entered (with_low (with_low m.regs 0 (trap_number kind)) 1 address) trap_entry }) []
 
 -- a call that isn't there traps at its instruction
 abbrev pub refused : Machine → ℕ → Turn Machine End
@@ -42,7 +42,7 @@ with_input m (byte ∷ rest) = record m { regs = with_low m.regs 0 byte; input =
 -- ends with a report, or is no call where there is none
 abbrev pub reported : Machine → ℕ → Option Report → Turn Machine End
 reported m at None = refused m at
-reported m at (Some report) = Stops m [] (Reports report)
+reported m at (Some report) = Ends m [] (Over report)
 
 -- the numbers of the calls that write their low byte
 abbrev pub is_character : ℕ → Bool
@@ -78,14 +78,14 @@ instructed m s = after_event (with_step m s) m.regs.pc s.event
 
 -- user mode has come to the pad
 abbrev pub is_at_pad : Regs → Bool
-is_at_pad r = not r.svc && r.pc == PAD
+is_at_pad r = not r.svc && r.pc == pad
 
 -- One step of the board: user mode at the pad goes back to the supervisor; else one instruction is made.
 unfoldable pub board_step : Machine → Turn Machine End
 board_step m =
-    if is_at_pad m.regs then Goes (record m { regs = entered m.regs RETURN_ENTRY }) []
+    if is_at_pad m.regs then Goes (record m { regs = entered m.regs return_entry }) []
     else instructed m (cpu_step board_space m.regs m.ram)
 
 -- what the board shows after at most so many instructions of an image
 abbrev pub board_run : List ℕ → List ℕ → ℕ → Outcome
-board_run words input bound = shown (λ m. arena_of m.ram) (run board_step bound (loaded words input) [])
+board_run words input bound = outcome_of (λ m. arena_of m.ram) (run board_step bound (loaded words input) [])

@@ -1,17 +1,18 @@
 ghost use Rattle.std.specs.Prelude.{◌≡◌, ◌+◌, ◌-◌, ◌^◌, ◌%◌, ◌<◌, ◌≤◌, min, [], List, ℕ, false, true, length, IfOk, OnOk, OnErr};
-ghost use Rattle.bv_io.specs.Runs.{run, steps_made, written_by};
+ghost use Rattle.bv_run.specs.Runs.{run, steps_made, output_so_far};
 ghost use Rattle.bv_io.specs.Shelf.{Rose, counted};
 ghost use Rattle.bv_io.specs.Sink.{with_bytes, WritesPart};
 ghost use Rattle.arm2_machine.specs.Machine.{loaded, arena_of};
 ghost use Rattle.arm2_machine.specs.Step.{board_step, called, called_by_user, entered, refused, reported, trapped, with_input};
 
 use crate::calls::{self, SWI_CHARACTER, SWI_END, SWI_NEW_LINE, SWI_READ, SWI_WRITE};
-use crate::layout::{IMAGE_START, IMAGE_WORDS, PAD, RETURN_ENTRY, TRAP_ENTRY};
+use bv_base::{IMAGE_START, IMAGE_WORDS, NoMemory, PAD, RETURN_ENTRY, TRAP_ENTRY};
 use crate::output::write;
 use crate::ram::BoardRam;
 use crate::step::{Output, StepOutcome};
 use arm2_cpu::{CpuEvent, PC_END, Regs, step_cpu};
-use bv_io::{NoMemory, Report, RunEnd, Sink, SinkFault, Trap};
+use bv_io::{Sink, SinkFault};
+use bv_run::{Report, RunEnd, Trap};
 use std::alloc::Global;
 use std::marker::Model;
 
@@ -225,9 +226,9 @@ impl Board {
     pub fn run<O: Sink>(&mut self, bound: u64, out: &mut O) -> Result<RunEnd, SinkFault>
         requires { self.old.closed ≡ false }
         ensures ends { IfOk result (λ end. run board_step bound self.old.machine []
-            ≡ progress_of end self.new.machine (written_by (run board_step bound self.old.machine []))) }
+            ≡ progress_of end self.new.machine (output_so_far (run board_step bound self.old.machine []))) }
         ensures written { OnOk result
-            (O.written out.new ≡ with_bytes (O.written out.old) (written_by (run board_step bound self.old.machine []))) }
+            (O.written out.new ≡ with_bytes (O.written out.old) (output_so_far (run board_step bound self.old.machine []))) }
         ensures closed { IfOk result (λ end. self.new.closed ≡ is_end end) }
         ensures steps { OnOk result
             (self.new.steps ≡ min (self.old.steps + steps_made board_step bound self.old.machine) (2 ^ 64 - 1)) }
@@ -235,7 +236,7 @@ impl Board {
         // After a fault some first part of the run's output was written, and the board stands behind the instruction at whose
         // output the sink failed.
         ensures fault { OnErr result
-            (WritesPart (O.written out.old) (written_by (run board_step bound self.old.machine [])) (O.written out.new)) }
+            (WritesPart (O.written out.old) (output_so_far (run board_step bound self.old.machine [])) (O.written out.new)) }
         ensures fault_at { OnErr result (HasFaulted bound self.old self.new (O.written out.old) (O.written out.new)) }
         ensures fault_closes { OnErr result (self.new.closed ≡ true) }
         ensures cause { OnErr result (Rose (O.faults out.old) (O.faults out.new)) }

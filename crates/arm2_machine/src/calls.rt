@@ -1,7 +1,7 @@
 ghost use Rattle.std.specs.Prelude.{◌≡◌};
 ghost use Rattle.arm2_machine.specs.Reports.{trap_of, stray_of, report_of, trap_number};
 
-use bv_io::{Report, Trap};
+use bv_run::{Report, Trap};
 
 /// The software interrupt that writes the low byte of R0.
 pub const SWI_WRITE: u32 = 0x00;

@@ -2,9 +2,8 @@ ghost use Rattle.std.specs.Prelude.{◌≡◌, ◌≤◌, ◌<◌, ◌↔◌, Is
 ghost use Rattle.arm2_machine.specs.Image.{ImageOf, HasOneImage, ExplainsImage, MagicEnds, IsWhole};
 ghost use Rattle.arm2_machine.specs.Words.{AreWords};
 
-use crate::layout::IMAGE_WORDS;
+use bv_base::{IMAGE_WORDS, NoMemory};
 use crate::words::{push_word, push_words};
-use bv_io::NoMemory;
 use byteorder::{ByteOrder, LittleEndian};
 use std::alloc::{AllocError, AllocFailed, Global};
 use thiserror::Error;

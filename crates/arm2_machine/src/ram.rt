@@ -1,10 +1,9 @@
 ghost use Rattle.std.specs.Prelude.{◌≡◌, ◌≤◌, length, IfOk};
 ghost use Rattle.arm2_machine.specs.Machine.{arena_of, board_space, loaded_ram};
 
-use crate::layout::{IMAGE_START, IMAGE_WORDS, RAM_END};
+use bv_base::{ARENA_END, ARENA_START, IMAGE_START, IMAGE_WORDS, NoMemory, RAM_END};
 use crate::words::words_to_bytes;
 use arm2_cpu::Memory;
-use bv_io::{ARENA_END, ARENA_START, NoMemory};
 use bv_ram::Ram;
 use std::alloc::Global;
 use std::marker::Model;
@@ -17,13 +16,13 @@ pub struct BoardRam {
 
 impl Model for BoardRam {
     ghost use Rattle.std.specs.Prelude.{◌≡◌, ℕ, List, length};
-    ghost use Rattle.arm2_machine.specs.declared.layout.TheConstants.{RAM_END};
+    ghost use Rattle.bv_base.specs.MemoryMap.{ram_end};
 
     ghost Value = { List ℕ };
 
     ghost view = { λ r. r.ram };
 
-    ghost invariant = { λ r. length r.ram ≡ RAM_END };
+    ghost invariant = { λ r. length r.ram ≡ ram_end };
 }
 
 /// Whether a mode may use an address.

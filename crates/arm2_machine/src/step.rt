@@ -1,4 +1,4 @@
-use bv_io::{Report, Trap};
+use bv_run::{Report, Trap};
 
 /// What an instruction writes.
 #[derive(Clone, Copy, Debug, PartialEq, Eq)]

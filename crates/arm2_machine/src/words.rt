@@ -1,7 +1,7 @@
 ghost use Rattle.std.specs.Prelude.{◌≡◌, ◌≤◌, ◌++◌, length, flat_map, IfOk, OnOk};
 ghost use Rattle.arm2_machine.specs.Words.{word_bytes};
 
-use crate::layout::IMAGE_WORDS;
+use bv_base::IMAGE_WORDS;
 use byteorder::{ByteOrder, LittleEndian};
 use std::alloc::{AllocError, Global};
 

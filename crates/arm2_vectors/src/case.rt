@@ -3,7 +3,7 @@ ghost use Rattle.arm2_cpu.specs.Registers.{IsValidRegs};
 use crate::fields::{Fields, decimal, hexadecimal};
 use crate::words::{Words, words_of};
 use arm2_cpu::{CpuEvent, Regs};
-use bv_io::Trap;
+use bv_run::Trap;
 
 /// How many registers both modes share, R0 to R12.
 const LOW_REGISTERS: usize = 13;

@@ -1,12 +1,12 @@
 ghost use Rattle.std.specs.Prelude.{◌≡◌, ◌+◌, ◌≤◌, ◌<◌, ◌%◌, ℕ, length};
 ghost use Rattle.arm2_cpu.specs.Memory.{word_at, with_word};
 ghost use Rattle.arm2_cpu.specs.Window.{window};
-ghost use Rattle.bv_io.specs.declared.memory_map.TheConstants.{ARENA_START, ARENA_END};
+ghost use Rattle.bv_base.specs.MemoryMap.{arena_start, arena_end};
 
 use crate::words::MOST_WORDS;
 use arm2_cpu::Memory;
 use arrayvec::ArrayVec;
-use bv_io::{ARENA_END, ARENA_START};
+use bv_base::{ARENA_END, ARENA_START};
 use bv_ram::Ram;
 use std::alloc::{AllocError, Global};
 use std::marker::PhantomData;
@@ -30,7 +30,7 @@ pub trait RamEnd {
 
     ghost whole_words: { end % 4 ≡ 0 };
 
-    ghost has_arena: { ARENA_END ≤ 0 + end };
+    ghost has_arena: { arena_end ≤ 0 + end };
 }
 
 /// The smaller of the boards' memories.
@@ -80,7 +80,7 @@ pub struct StepRam<E: RamEnd> {
 }
 
 fn allows<E: RamEnd>(user: bool, at: u32) -> bool
-    ensures { result ≡ (window 0 E.end ARENA_START ARENA_END).allows user at }
+    ensures { result ≡ (window 0 E.end arena_start arena_end).allows user at }
 {
     if user {
         ARENA_START <= at && at < ARENA_END
@@ -108,7 +108,7 @@ impl<E: RamEnd> StepRam<E> {
     fn get(&self, at: u32) -> u32
         requires aligned { at % 4 ≡ 0 }
         requires inside { at + 3 < E.end }
-        ensures { result ≡ word_at (window 0 E.end ARENA_START ARENA_END) self.now.ram at }
+        ensures { result ≡ word_at (window 0 E.end arena_start arena_end) self.now.ram at }
     {
         u32::from(self.ram.byte(at))
             + (u32::from(self.ram.byte(at + 1)) << 8)
@@ -120,7 +120,7 @@ impl<E: RamEnd> StepRam<E> {
     fn put(&mut self, at: u32, value: u32)
         requires aligned { at % 4 ≡ 0 }
         requires inside { at + 3 < E.end }
-        ensures { self.new.ram ≡ with_word (window 0 E.end ARENA_START ARENA_END) self.old.ram at value }
+        ensures { self.new.ram ≡ with_word (window 0 E.end arena_start arena_end) self.old.ram at value }
     {
         self.ram.set_byte(at, (value % 0x100) as u8);
         self.ram.set_byte(at + 1, ((value >> 8) % 0x100) as u8);
@@ -173,11 +173,11 @@ impl<E: RamEnd> StepRam<E> {
 impl<E: RamEnd> Memory for StepRam<E> {
     ghost use Rattle.std.specs.Prelude.{refl};
     ghost use Rattle.std.proofs.Common.{lit≤};
-    ghost use Rattle.bv_io.specs.declared.memory_map.TheConstants.{ARENA_START, ARENA_END};
+    ghost use Rattle.bv_base.specs.MemoryMap.{arena_start, arena_end};
     ghost use Rattle.arm2_cpu.specs.Window.{window};
     ghost use Rattle.arm2_cpu.specs.WindowLaws.{window-lawful};
 
-    ghost space = { window 0 E.end ARENA_START ARENA_END };
+    ghost space = { window 0 E.end arena_start arena_end };
 
     ghost bytes = { λ m. m.ram };
 
@@ -223,5 +223,5 @@ impl<E: RamEnd> Memory for StepRam<E> {
         self.word(user, at)
     }
 
-    ghost lawful = { window-lawful 0 E.end ARENA_START ARENA_END refl E.whole_words refl refl (lit≤ tt) E.has_arena };
+    ghost lawful = { window-lawful 0 E.end arena_start arena_end refl E.whole_words refl refl (lit≤ tt) E.has_arena };
 }

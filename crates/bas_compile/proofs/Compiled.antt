@@ -2,12 +2,11 @@
 use Rattle.std.proofs.Common.{◌≡◌, ℕ, ◌+◌, ◌*◌, ◌≤◌, List, [], ◌∷◌, length, refl, ap, subst, arith, length-append}
 use Rattle.token_file.specs.declared.line.Line.{Line}
 use Rattle.token_file.specs.Lines.{record_of, Lines}
-use Rattle.arm2_machine.specs.declared.layout.TheConstants.{IMAGE_WORDS}
+use Rattle.bv_base.specs.Limits.{file_bytes, image_words}
 use Rattle.arm2_machine.specs.Image.{ImageOf}
 use Rattle.bas_compile.specs.declared.item.Item.{Item}
 use Rattle.bas_compile.specs.declared.item.Item.TheVariants.{Vdu, End}
 use Rattle.bas_compile.specs.declared.item.ProgramLine.{ProgramLine}
-use Rattle.bas_compile.specs.declared.refusal.TheConstants.{FILE_BYTES}
 use Rattle.bas_compile.specs.Grammar.{Parses, ParsesAll, Accepted}
 use Rattle.bas_compile.specs.Code.{code_of}
 use Rattle.bas_compile.specs.Correct.{CompilesTo}
@@ -37,11 +36,11 @@ small_program [] (p ∷ ps) each = absurd each
 small_program (l ∷ ls) [] each = absurd each
 small_program (l ∷ ls) (p ∷ ps) each = (small_item l.text p.item each.1, small_program ls ps each.2)
 
-pub is_accepted : (bytes : List ℕ) (lines passed : List Line) (p : List ProgramLine) → length bytes ≤ FILE_BYTES → Lines bytes lines → passed ≡ lines → ParsesAll passed p → Accepted bytes p
+pub is_accepted : (bytes : List ℕ) (lines passed : List Line) (p : List ProgramLine) → length bytes ≤ file_bytes → Lines bytes lines → passed ≡ lines → ParsesAll passed p → Accepted bytes p
 is_accepted bytes lines passed p short read is parsed = record { short = short; lines = lines; read = read; parsed = subst (λ l. ParsesAll l p) is parsed }
 
 -- the code of an accepted program fits an image
-pub code_fits : (bytes : List ℕ) (p : List ProgramLine) → Accepted bytes p → length (code_of p) ≤ IMAGE_WORDS
+pub code_fits : (bytes : List ℕ) (p : List ProgramLine) → Accepted bytes p → length (code_of p) ≤ image_words
 code_fits bytes p accepted =
     omega (arith, length-code_of p, accepted.short, lines_take_bytes bytes accepted.lines accepted.read, length_of_program accepted.lines p accepted.parsed)
 

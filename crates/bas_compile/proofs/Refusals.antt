@@ -10,7 +10,7 @@ use Rattle.bas_compile.specs.declared.refusal.Refusal.{Refusal}
 use Rattle.bas_compile.specs.declared.refusal.Refusal.TheVariants as refusals
 use Rattle.bas_compile.specs.declared.refusal.Which.{Which}
 use Rattle.bas_compile.specs.declared.refusal.Which.TheVariants as limits
-use Rattle.bas_compile.specs.declared.refusal.TheConstants.{FILE_BYTES}
+use Rattle.bv_base.specs.Limits.{file_bytes}
 use Rattle.bas_compile.specs.Correct.{CompilesTo}
 use Rattle.bas_compile.specs.Grammar.{Parses, ParsesAll, Accepted}
 use Rattle.bas_compile.specs.Refused.{FirstOutside, IsOutside, Refused, Explained}
@@ -52,7 +52,7 @@ one_outside bytes m n a b =
     one_first_number b.lines m n (subst (λ l. FirstOutside l m) (one_list_of_lines bytes bytes a.lines b.lines refl a.read b.read) a.first) b.first
 
 -- no limit but that of a file's bytes is passed
-pub only_file : (bytes : List ℕ) (which : Which) (count : ℕ) → Refused bytes (refusals.Limit which count) → (FILE_BYTES < length bytes) × (refusals.Limit which count ≡ refusals.Limit limits.File (FILE_BYTES + 1))
+pub only_file : (bytes : List ℕ) (which : Which) (count : ℕ) → Refused bytes (refusals.Limit which count) → (file_bytes < length bytes) × (refusals.Limit which count ≡ refusals.Limit limits.File (file_bytes + 1))
 only_file bytes limits.File count r = (r.0, ap (λ n. refusals.Limit limits.File n) r.1)
 only_file bytes limits.Names count r = absurd r
 only_file bytes limits.Strings count r = absurd r

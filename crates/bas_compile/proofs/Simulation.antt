@@ -1,12 +1,13 @@
 -- The board does what the program does, a line at a time.
 use Rattle.std.proofs.Common.{◌≡◌, ℕ, zero, suc, ◌+◌, ◌*◌, ◌%◌, ◌<◌, ◌≤◌, List, [], ◌∷◌, ◌++◌, length, Option, Some, None, slice_get, slice_index, true, refl, sym, ap, subst, ◌∙◌, arith, append-nil, length-set, get_or-set_same, mod-eq_of_lt}
 use Rattle.std.proofs.lemmas.Option.{slice_get_within}
-use Rattle.bv_io.specs.declared.report.Report.TheVariants.{Done}
-use Rattle.bv_io.specs.Outcome.{Over, Going}
-use Rattle.bv_io.specs.Runs.{Goes, At, Ended, Reports, run, shown}
-use Rattle.bv_io.proofs.RunLaws.{Leads, leads_step, leads-leads, leads_run, run-zero, run_stops}
-use Rattle.bv_io.proofs.Agreement.{Follows, agree_from, grows_run}
-use Rattle.arm2_machine.specs.declared.layout.TheConstants.{IMAGE_START, IMAGE_WORDS}
+use Rattle.bv_run.specs.declared.report.Report.TheVariants.{Done}
+use Rattle.bv_run.specs.Outcome.{Over, Going}
+use Rattle.bv_run.specs.Runs.{Goes, Going, Ended, Over, run, outcome_of}
+use Rattle.bv_run.proofs.RunLaws.{Leads, leads_step, leads-leads, leads_run, run-zero, run_stops}
+use Rattle.bv_run.proofs.Agreement.{Follows, agree_from, grows_run}
+use Rattle.bv_base.specs.Limits.{image_words}
+use Rattle.bv_base.specs.MemoryMap.{image_start}
 use Rattle.arm2_cpu.specs.declared.regs.TheConstants.{PC_END}
 use Rattle.arm2_cpu.specs.Registers.{at_next}
 use Rattle.arm2_machine.specs.Machine.{Machine, fetched, loaded, loaded_ram, arena_of}
@@ -33,15 +34,15 @@ execute-suc p n place s = refl
 -- the board is about to carry out the line at a place
 record Stands (p : List ProgramLine) (place : ℕ) (m : Machine) (s : State) : Type 0 where
   ram : m.ram ≡ loaded_ram (code_of p)
-  pc : m.regs.pc ≡ IMAGE_START + 8 * place
+  pc : m.regs.pc ≡ image_start + 8 * place
   svc : m.regs.svc ≡ true
   registers : length m.regs.low ≡ 13
   arena : arena_of m.ram ≡ s.arena
 
 -- the board has come as far as a course of at most n steps, in at least as many steps
 abbrev FollowsCourse : ℕ → Course → Machine → List ℕ → Type 0
-FollowsCourse n (Finished s report) m out = (k : ℕ) × (t : Machine) × (run board_step k m out ≡ Ended t s.out (Reports report)) × (arena_of t.ram ≡ s.arena)
-FollowsCourse n (Spent s) m out = (k : ℕ) × (t : Machine) × (n ≤ k) × (run board_step k m out ≡ At t s.out) × (arena_of t.ram ≡ s.arena)
+FollowsCourse n (Finished s report) m out = (k : ℕ) × (t : Machine) × (run board_step k m out ≡ Ended t s.out (Over report)) × (arena_of t.ram ≡ s.arena)
+FollowsCourse n (Spent s) m out = (k : ℕ) × (t : Machine) × (n ≤ k) × (run board_step k m out ≡ Going t s.out) × (arena_of t.ram ≡ s.arena)
 
 -- a stretch of the board in front of what follows
 go_on : (n : ℕ) (course : Course) (m t : Machine) (bytes out : List ℕ) → Leads board_step m t bytes → FollowsCourse n course t (out ++ bytes) → FollowsCourse (suc n) course m out
@@ -72,7 +73,7 @@ ends n m a s at small svc registers arena h =
     let last = step_done (moved m 0) (r0-moved m 0 registers) svc (ap (fetched m.ram) (next_pc m.regs.pc a at small) ∙ h.1.0) in (
       first.steps + 1,
       behind (moved m 0),
-      leads_run board_step m (moved m 0) [] first 1 s.out ∙ run_stops board_step _ _ _ _ (s.out ++ []) last ∙ ap (λ o. Ended (behind (moved m 0)) o (Reports Done)) (append-nil (s.out ++ []) ∙ append-nil s.out),
+      leads_run board_step m (moved m 0) [] first 1 s.out ∙ run_stops board_step _ _ _ _ (s.out ++ []) last ∙ ap (λ o. Ended (behind (moved m 0)) o (Over Done)) (append-nil (s.out ++ []) ∙ append-nil s.out),
       arena,
     )
 
@@ -85,49 +86,49 @@ leads_vdu m a n at small svc registers byte h =
     leads-leads board_step m (moved m n) _ [] (n ∷ []) first (leads_step board_step _ _ (n ∷ []) (write ∙ ap (λ b. Goes (behind (moved m n)) (b ∷ [])) value))
 
 -- a place of the program lies within the addresses of instructions
-within_image : (p : List ProgramLine) (place : ℕ) → length (code_of p) ≤ IMAGE_WORDS → place ≤ length p → IMAGE_START + 8 * place + 8 < PC_END
+within_image : (p : List ProgramLine) (place : ℕ) → length (code_of p) ≤ image_words → place ≤ length p → image_start + 8 * place + 8 < PC_END
 within_image p place short within = omega (arith, short, within, length-code_of p)
 
 -- the code of the program stands in the board's memory
-code_stands : (p : List ProgramLine) (place : ℕ) (m : Machine) (s : State) → AreSmall p → length (code_of p) ≤ IMAGE_WORDS → Stands p place m s → HasAt m.ram IMAGE_START (code_of p)
-code_stands p place m s small short stands = subst (λ r. HasAt r IMAGE_START (code_of p)) (sym stands.ram) (loaded_has (code_of p) short (are_words p small))
+code_stands : (p : List ProgramLine) (place : ℕ) (m : Machine) (s : State) → AreSmall p → length (code_of p) ≤ image_words → Stands p place m s → HasAt m.ram image_start (code_of p)
+code_stands p place m s small short stands = subst (λ r. HasAt r image_start (code_of p)) (sym stands.ram) (loaded_has (code_of p) short (are_words p small))
 
 -- behind the code of VDU the board stands at the next line
-stands_next : (p : List ProgramLine) (place n : ℕ) (m : Machine) (s : State) → length (code_of p) ≤ IMAGE_WORDS → place < length p → Stands p place m s → Stands p (place + 1) (behind (moved m n)) (record s { out = s.out ++ n ∷ [] })
+stands_next : (p : List ProgramLine) (place n : ℕ) (m : Machine) (s : State) → length (code_of p) ≤ image_words → place < length p → Stands p place m s → Stands p (place + 1) (behind (moved m n)) (record s { out = s.out ++ n ∷ [] })
 stands_next p place n m s short within stands =
     let fits = within_image p place short (omega (arith, within)) in
     record {
       ram = stands.ram;
-      pc = next_pc _ _ (next_pc m.regs.pc (IMAGE_START + 8 * place) stands.pc (omega (arith, fits))) (omega (arith, fits)) ∙ omega arith;
+      pc = next_pc _ _ (next_pc m.regs.pc (image_start + 8 * place) stands.pc (omega (arith, fits))) (omega (arith, fits)) ∙ omega arith;
       svc = stands.svc;
       registers = length-set m.regs.low 0 n ∙ stands.registers;
       arena = stands.arena;
     }
 
 -- what an item does and what comes behind it, followed from the item's code
-follows_item : (p : List ProgramLine) (n place : ℕ) (line : ProgramLine) (m : Machine) (s : State) → AreSmall p → length (code_of p) ≤ IMAGE_WORDS → slice_get p place ≡ Some line → Stands p place m s
+follows_item : (p : List ProgramLine) (n place : ℕ) (line : ProgramLine) (m : Machine) (s : State) → AreSmall p → length (code_of p) ≤ image_words → slice_get p place ≡ Some line → Stands p place m s
     → ((t : Machine) (s' : State) → Stands p (place + 1) t s' → FollowsCourse n (execute p n (place + 1) s') t s'.out)
     → (item : Item) → line.item ≡ item → FollowsCourse (suc n) (carried item (execute p n (place + 1)) s) m s.out
 follows_item p n place line m s small short is stands next (Vdu b) item_is =
     let within = slice_get_within p place line is in
-    let code = subst (λ i. HasAt m.ram (IMAGE_START + 8 * place) (item_code i)) item_is (at_line m.ram p place IMAGE_START line is (code_stands p place m s small short stands)) in
+    let code = subst (λ i. HasAt m.ram (image_start + 8 * place) (item_code i)) item_is (at_line m.ram p place image_start line is (code_stands p place m s small short stands)) in
     let byte = subst IsSmall item_is (small_at p place line is small) in
     let fits = within_image p place short (omega (arith, within)) in
     go_on n _ m _ (b ∷ []) s.out (leads_vdu m _ b stands.pc (omega (arith, fits)) stands.svc stands.registers byte code) (next _ _ (stands_next p place b m s short within stands))
 follows_item p n place line m s small short is stands next End item_is =
     let within = slice_get_within p place line is in
-    let code = subst (λ i. HasAt m.ram (IMAGE_START + 8 * place) (item_code i)) item_is (at_line m.ram p place IMAGE_START line is (code_stands p place m s small short stands)) in
+    let code = subst (λ i. HasAt m.ram (image_start + 8 * place) (item_code i)) item_is (at_line m.ram p place image_start line is (code_stands p place m s small short stands)) in
     let fits = within_image p place short (omega (arith, within)) in
     ends (suc n) m _ s stands.pc (omega (arith, fits)) stands.svc stands.registers stands.arena code
 
 -- behind the last line the run ends
-follows_end : (p : List ProgramLine) (n place : ℕ) (m : Machine) (s : State) → AreSmall p → length (code_of p) ≤ IMAGE_WORDS → slice_get p place ≡ None → place ≤ length p → Stands p place m s → FollowsCourse n (Finished s Done) m s.out
+follows_end : (p : List ProgramLine) (n place : ℕ) (m : Machine) (s : State) → AreSmall p → length (code_of p) ≤ image_words → slice_get p place ≡ None → place ≤ length p → Stands p place m s → FollowsCourse n (Finished s Done) m s.out
 follows_end p n place m s small short is within stands =
     let fits = within_image p place short within in
-    ends n m _ s stands.pc (omega (arith, fits)) stands.svc stands.registers stands.arena (at_end m.ram p place IMAGE_START is within (code_stands p place m s small short stands))
+    ends n m _ s stands.pc (omega (arith, fits)) stands.svc stands.registers stands.arena (at_end m.ram p place image_start is within (code_stands p place m s small short stands))
 
 -- the board follows the program from any line on
-follows : (p : List ProgramLine) → AreSmall p → length (code_of p) ≤ IMAGE_WORDS → (n place : ℕ) (m : Machine) (s : State) → place ≤ length p → Stands p place m s → FollowsCourse n (execute p n place s) m s.out
+follows : (p : List ProgramLine) → AreSmall p → length (code_of p) ≤ image_words → (n place : ℕ) (m : Machine) (s : State) → place ≤ length p → Stands p place m s → FollowsCourse n (execute p n place s) m s.out
 follows p small short zero place m s within stands =
     subst (λ c. FollowsCourse zero c m s.out) (sym (execute-zero p place s)) (by_line (slice_get p place) refl)
   where
@@ -145,12 +146,12 @@ follows p small short (suc n) place m s within stands =
 stands_first : (p : List ProgramLine) (input : List ℕ) → Stands p 0 (loaded (code_of p) input) (start input)
 stands_first p input = record { ram = refl; pc = refl; svc = refl; registers = refl; arena = arena_of-loaded_ram (code_of p) }
 
-by_course : (n : ℕ) (course : Course) (m : Machine) → FollowsCourse n course m [] → Follows n (shows course) (λ k. shown (λ t. arena_of t.ram) (run board_step k m []))
-by_course n (Finished s report) m f = (f.0, ap (shown (λ t. arena_of t.ram)) f.2 ∙ ap (λ a. Over s.out a report) f.3)
-by_course n (Spent s) m f = (f.0, f.2, ap (shown (λ t. arena_of t.ram)) f.3 ∙ ap (λ a. Going s.out a) f.4)
+by_course : (n : ℕ) (course : Course) (m : Machine) → FollowsCourse n course m [] → Follows n (shows course) (λ k. outcome_of (λ t. arena_of t.ram) (run board_step k m []))
+by_course n (Finished s report) m f = (f.0, ap (outcome_of (λ t. arena_of t.ram)) f.2 ∙ ap (λ a. Over s.out a report) f.3)
+by_course n (Spent s) m f = (f.0, f.2, ap (outcome_of (λ t. arena_of t.ram)) f.3 ∙ ap (λ a. Going s.out a) f.4)
 
 -- the code of a program agrees with it
-pub code-agrees : (p : List ProgramLine) → AreSmall p → length (code_of p) ≤ IMAGE_WORDS → Agrees p (code_of p)
+pub code-agrees : (p : List ProgramLine) → AreSmall p → length (code_of p) ≤ image_words → Agrees p (code_of p)
 code-agrees p small short input =
     agree_from (source_run p input) (board_run (code_of p) input) (grows_run (λ t. arena_of t.ram) board_step (loaded (code_of p) input) [])
     (λ n. by_course n (execute p n 0 (start input)) (loaded (code_of p) input) (follows p small short n 0 (loaded (code_of p) input) (start input) (omega arith) (stands_first p input)))

@@ -12,7 +12,7 @@ use Rattle.bas_compile.specs.declared.item.ProgramLine.{ProgramLine}
 use Rattle.bas_compile.specs.declared.refusal.Refusal.{Refusal}
 use Rattle.bas_compile.specs.declared.refusal.Refusal.TheVariants as refusals
 use Rattle.bas_compile.specs.declared.refusal.Which.TheVariants as limits
-use Rattle.bas_compile.specs.declared.refusal.TheConstants.{FILE_BYTES}
+use Rattle.bv_base.specs.Limits.{file_bytes}
 use Rattle.bas_compile.specs.Grammar.{IsDigit, value_of, Parses, ParsesAll, Accepted}
 use Rattle.bas_compile.specs.Parsing.{without_spaces, NoDigitFirst, IsLastNumber, IsFront}
 use Rattle.bas_compile.specs.Refused.{FirstOutside, Refused}
@@ -129,8 +129,8 @@ decide_lines (line ∷ lines) =
 -- every list of bytes is accepted or refused
 pub accepted_or_refused : (bytes : List ℕ) → ((p : List ProgramLine) × Accepted bytes p) ⊎ ((r : Refusal) × Refused bytes r)
 accepted_or_refused bytes =
-    elim (cases_lt FILE_BYTES (length bytes)) [
-      | inl long ↦ inr (refusals.Limit limits.File (FILE_BYTES + 1), (long, refl))
+    elim (cases_lt file_bytes (length bytes)) [
+      | inl long ↦ inr (refusals.Limit limits.File (file_bytes + 1), (long, refl))
       | inr short ↦ elim (every_file_is_read bytes) [
         | inr malformed ↦ inr (refusals.Malformed malformed.0, (short, malformed.1))
         | inl (lines, read) ↦ elim (decide_lines lines) [

@@ -1,6 +1,6 @@
 -- The agreement of image and program.
 use Rattle.std.specs.Prelude.{◌≡◌, ℕ, List}
-use Rattle.bv_io.specs.Outcome.{RunsAgree}
+use Rattle.bv_run.specs.Outcome.{RunsAgree}
 use Rattle.arm2_machine.specs.Image.{ImageOf}
 use Rattle.arm2_machine.specs.Step.{board_run}
 use Rattle.bas_compile.specs.declared.item.ProgramLine.{ProgramLine}

@@ -9,7 +9,7 @@ use Rattle.bas_compile.specs.declared.item.Item.TheVariants.{Vdu, End}
 use Rattle.bas_compile.specs.declared.item.ProgramLine.{ProgramLine}
 use Rattle.bv_token.specs.declared.tokens.TheConstants.{END, VDU}
 use Rattle.bas_compile.specs.declared.parse.TheConstants.{SPACE}
-use Rattle.bas_compile.specs.declared.refusal.TheConstants.{FILE_BYTES}
+use Rattle.bv_base.specs.Limits.{file_bytes}
 
 -- so many spaces
 abbrev pub spaces : ℕ → List ℕ
@@ -59,7 +59,7 @@ ParsesAll (l ∷ ls) [] = ⊥
 
 -- The file is accepted as this program: it is short enough, it has lines, and each line is an item.
 pub record Accepted (bytes : List ℕ) (program : List ProgramLine) : Type 0 where
-  pub short : length bytes ≤ FILE_BYTES
+  pub short : length bytes ≤ file_bytes
   pub lines : List Line
   pub read : Lines bytes lines
   pub parsed : ParsesAll lines program

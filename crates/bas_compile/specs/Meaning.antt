@@ -1,11 +1,11 @@
 -- What a program does, written without the board (BBC BASIC Reference Manual: program lines, VDU, END). The arena and
 -- the counting of steps are this project's own.
 use Rattle.std.specs.Prelude.{ℕ, zero, suc, ◌+◌, List, [], ◌∷◌, ◌++◌, Option, Some, None, slice_get}
-use Rattle.bv_io.specs.declared.memory_map.TheConstants.{ARENA_BYTES}
-use Rattle.bv_io.specs.declared.report.Report.{Report}
-use Rattle.bv_io.specs.declared.report.Report.TheVariants.{Done}
-use Rattle.bv_io.specs.Bytes.{zeros}
-use Rattle.bv_io.specs.Outcome.{Outcome, Over, Going}
+use Rattle.bv_base.specs.MemoryMap.{arena_bytes}
+use Rattle.bv_run.specs.declared.report.Report.{Report}
+use Rattle.bv_run.specs.declared.report.Report.TheVariants.{Done}
+use Rattle.bv_base.specs.Bytes.{zeros}
+use Rattle.bv_run.specs.Outcome.{Outcome, Over, Going}
 use Rattle.bas_compile.specs.declared.item.Item.{Item}
 use Rattle.bas_compile.specs.declared.item.Item.TheVariants.{Vdu, End}
 use Rattle.bas_compile.specs.declared.item.ProgramLine.{ProgramLine}
@@ -18,7 +18,7 @@ pub record State : Type 0 where
 
 -- the state in which a run begins
 abbrev pub start : List ℕ → State
-start input = record { arena = zeros ARENA_BYTES; input = input; out = [] }
+start input = record { arena = zeros arena_bytes; input = input; out = [] }
 
 -- the program has ended, or its steps are used up
 pub data Course : Type 0 where

@@ -9,7 +9,7 @@ use Rattle.bas_compile.specs.declared.item.ProgramLine.{ProgramLine}
 use Rattle.bas_compile.specs.declared.refusal.Refusal.{Refusal}
 use Rattle.bas_compile.specs.declared.refusal.Refusal.TheVariants as refusals
 use Rattle.bas_compile.specs.declared.refusal.Which.TheVariants as limits
-use Rattle.bas_compile.specs.declared.refusal.TheConstants.{FILE_BYTES}
+use Rattle.bv_base.specs.Limits.{file_bytes}
 use Rattle.bas_compile.specs.Grammar.{Parses, ParsesAll}
 
 -- The first line that is no item has this number.
@@ -25,16 +25,16 @@ pub record FirstOutside (lines : List Line) (number : ℕ) : Type 0 where
 
 -- The file is short enough and has lines, of which this is the number of the first that is no item.
 pub record IsOutside (bytes : List ℕ) (number : ℕ) : Type 0 where
-  pub short : length bytes ≤ FILE_BYTES
+  pub short : length bytes ≤ file_bytes
   pub lines : List Line
   pub read : Lines bytes lines
   pub first : FirstOutside lines number
 
 -- The file is refused for this reason. Want of memory is no reason of the file's own.
 abbrev pub Refused : List ℕ → Refusal → Type 0
-Refused bytes (refusals.Malformed at) = (length bytes ≤ FILE_BYTES) × Malformed bytes at
+Refused bytes (refusals.Malformed at) = (length bytes ≤ file_bytes) × Malformed bytes at
 Refused bytes (refusals.Outside line) = IsOutside bytes line
-Refused bytes (refusals.Limit limits.File count) = (FILE_BYTES < length bytes) × (count ≡ FILE_BYTES + 1)
+Refused bytes (refusals.Limit limits.File count) = (file_bytes < length bytes) × (count ≡ file_bytes + 1)
 Refused bytes (refusals.Limit limits.Names count) = ⊥
 Refused bytes (refusals.Limit limits.Strings count) = ⊥
 Refused bytes (refusals.Limit limits.Parameters count) = ⊥

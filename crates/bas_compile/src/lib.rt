@@ -12,4 +12,4 @@ mod refusal;
 pub use compiler::compile;
 pub use item::{Item, ProgramLine};
 pub use laws::one_verdict;
-pub use refusal::{FILE_BYTES, LONG_FILE, Refusal, Which};
+pub use refusal::{LONG_FILE, Refusal, Which};

@@ -1,10 +1,7 @@
 ghost use Rattle.std.specs.Prelude.{◌≡◌};
 
-use bv_io::NoMemory;
+use bv_base::{FILE_BYTES, NoMemory};
 use std::alloc::{AllocError, AllocFailed};
-
-/// The greatest number of bytes in a program's file.
-pub const FILE_BYTES: u32 = 65536;
 
 /// How a program's file of too many bytes is refused.
 pub const LONG_FILE: Refusal = Refusal::Limit {

@@ -13,7 +13,8 @@ use crate::sign_numbers::{CLOSE_SQUARE, COLON, OPEN_SQUARE};
 use crate::symbol::{LexError, Mode, Sym, SymKind, SymbolRun};
 use crate::text::read_text;
 use crate::token::{read_line_ref, read_token};
-use bv_token::{DATA, FN, LINE_REFERENCE, LONGEST_TEXT, OTHERWISE, PROC, REM};
+use bv_base::LONGEST_TEXT;
+use bv_token::{DATA, FN, LINE_REFERENCE, OTHERWISE, PROC, REM};
 use sqlite_items::Items;
 use std::alloc::Global;
 

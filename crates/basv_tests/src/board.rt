@@ -1,7 +1,8 @@
 //! Runs of the board by words, which are worked out by hand from its definition.
 
 use arm2_machine::Board;
-use bv_io::{MemSink, Report, RunEnd, Trap};
+use bv_io::MemSink;
+use bv_run::{Report, RunEnd, Trap};
 use std::alloc::Global;
 use std::test::Fail;
 

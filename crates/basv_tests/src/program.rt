@@ -4,9 +4,11 @@
 ghost use Rattle.std.specs.Prelude.{◌<◌, ◌^◌, length};
 
 use arm2_machine::{Board, ImageError, read_image, write_image};
-use bas_compile::{FILE_BYTES, Refusal, compile};
+use bas_compile::{Refusal, compile};
+use bv_base::FILE_BYTES;
 use basv_top::{Status, basv, basv_in_memory};
-use bv_io::{MemShelf, MemSink, Report, RunEnd, Shelf, Sink, SinkFault, SureShelf, TakeError};
+use bv_io::{MemShelf, MemSink, Shelf, Sink, SinkFault, SureShelf, TakeError};
+use bv_run::{Report, RunEnd};
 use sqlite_items::Items;
 use std::alloc::{AllocError, Global};
 use std::test::Fail;

@@ -6,7 +6,8 @@ use bas_lex::sign_numbers::{
     SHIFT_RIGHT, SHIFT_RIGHT_SIGNED,
 };
 use bas_lex::{LexError, NO_SUFFIX, Sym, SymKind, symbols};
-use bv_token::{LONGEST_TEXT, REM};
+use bv_base::LONGEST_TEXT;
+use bv_token::REM;
 use std::alloc::Global;
 use std::test::Fail;
 

@@ -6,7 +6,7 @@ use Rattle.token_file.specs.Lines.{Lines}
 use Rattle.bas_compile.specs.declared.item.ProgramLine.{ProgramLine}
 use Rattle.bas_compile.specs.declared.refusal.Refusal.{Refusal}
 use Rattle.bas_compile.specs.declared.refusal.Refusal.TheVariants as refusals
-use Rattle.bas_compile.specs.declared.refusal.TheConstants.{FILE_BYTES}
+use Rattle.bv_base.specs.Limits.{file_bytes}
 use Rattle.basv_top.specs.declared.status.Status.TheVariants as statuses
 use Rattle.basv_top.specs.Ending as endings
 use Rattle.basv_top.specs.Ending.{Ending, status_of, refusal_status}
@@ -38,7 +38,7 @@ unlistable-refused bytes (refusals.Limit which count) why = why
 unlistable-refused bytes refusals.NoMemory why = absurd why
 
 -- a file that has lines can be listed
-listable : (bytes : List ℕ) (lines : List Line) (reason : Refusal) → length bytes ≤ FILE_BYTES → Lines bytes lines → Unlistable bytes reason → ⊥
+listable : (bytes : List ℕ) (lines : List Line) (reason : Refusal) → length bytes ≤ file_bytes → Lines bytes lines → Unlistable bytes reason → ⊥
 listable bytes lines (refusals.Malformed at) short read why = malformed_has_no_lines bytes at lines why.1 read
 listable bytes lines (refusals.Outside line) short read why = why
 listable bytes lines (refusals.Limit which count) short read why = let long = only_file bytes which count why in omega (arith, short, long.0)
@@ -81,14 +81,14 @@ module _ (before after : SeenShelf) where
   refused_is_told file image bytes r (endings.Ran end bound) e held refused calm = absurd e
 
   -- lines that were given are those of the content that is told
-  given_lines : (file bytes : List ℕ) (lines : List Line) → before.content file ≡ Some (Some bytes) → GivesLines before file lines → (length bytes ≤ FILE_BYTES) × Lines bytes lines
+  given_lines : (file bytes : List ℕ) (lines : List Line) → before.content file ≡ Some (Some bytes) → GivesLines before file lines → (length bytes ≤ file_bytes) × Lines bytes lines
   given_lines file bytes lines held given =
       let same = told_is _ bytes given.bytes held given.given in
-      (subst (λ b. length b ≤ FILE_BYTES) same given.short, subst (λ b. Lines b lines) same given.read)
+      (subst (λ b. length b ≤ file_bytes) same given.short, subst (λ b. Lines b lines) same given.read)
 
   module _ (out_before out_after : SeenSink) where
     -- a file that has lines is listed, where nothing failed
-    pub lines_are_listed : (file bytes : List ℕ) (lines : List Line) (ending : Ending) → ExplainsList before after out_before out_after file ending → before.content file ≡ Some (Some bytes) → length bytes ≤ FILE_BYTES → Lines bytes lines → (Rose before.take_faults after.take_faults → ⊥) → (Rose out_before.faults out_after.faults → ⊥) → (status_of ending ≡ statuses.Done) ⊎ (status_of ending ≡ statuses.NoMemory)
+    pub lines_are_listed : (file bytes : List ℕ) (lines : List Line) (ending : Ending) → ExplainsList before after out_before out_after file ending → before.content file ≡ Some (Some bytes) → length bytes ≤ file_bytes → Lines bytes lines → (Rose before.take_faults after.take_faults → ⊥) → (Rose out_before.faults out_after.faults → ⊥) → (status_of ending ≡ statuses.Done) ⊎ (status_of ending ≡ statuses.NoMemory)
     lines_are_listed file bytes lines endings.Done e held short read calm_take calm_out = inl refl
     lines_are_listed file bytes lines endings.Usage e held short read calm_take calm_out = absurd e
     lines_are_listed file bytes lines (endings.Refused reason) e held short read calm_take calm_out =

@@ -1,13 +1,14 @@
 -- Why commands end as they do.
 use Rattle.std.proofs.Common.{◌≡◌, ◌≢◌, ℕ, ◌+◌, ◌<◌, List, [], ◌∷◌, ◌++◌, length, replicate, Option, Some, None, Result, Ok, Err, IsErrAnd, refl, sym, subst, arith}
 use Rattle.std.proofs.lemmas.List.{length-replicate}
-use Rattle.bv_io.specs.declared.report.Report.TheVariants as reports
-use Rattle.bv_io.specs.declared.report.RunEnd.TheVariants as ends
+use Rattle.bv_run.specs.declared.report.Report.TheVariants as reports
+use Rattle.bv_run.specs.declared.report.RunEnd.TheVariants as ends
 use Rattle.bv_io.specs.Shelf.{Tells, TellsMore}
 use Rattle.basv_top.specs.declared.ending.Ending.{Ending as Told}
 use Rattle.bas_compile.specs.declared.refusal.Refusal.{Refusal}
 use Rattle.bas_compile.specs.declared.refusal.Refusal.TheVariants as refusals
-use Rattle.bas_compile.specs.declared.refusal.TheConstants.{FILE_BYTES, LONG_FILE}
+use Rattle.bv_base.specs.Limits.{file_bytes}
+use Rattle.bas_compile.specs.declared.refusal.TheConstants.{LONG_FILE}
 use Rattle.basv_top.specs.declared.status.Status.TheVariants as statuses
 use Rattle.basv_top.specs.Ending.{Ending, Done, Usage, Refused, ReadFault, WriteFault, NotImage, Ran, told, status_of, text_of, line_of, ended}
 use Rattle.bas_compile.specs.Refused as refused
@@ -38,19 +39,19 @@ too_long None max more =
 too_long (Some None) max more = absurd more
 too_long (Some (Some bytes)) max more = (bytes, refl, more)
 
-refused_too_long : (rule : List ℕ → Refusal → Type 0) (content : Option (Option (List ℕ))) (reason : Refusal) → ((bytes : List ℕ) → FILE_BYTES < length bytes → rule bytes LONG_FILE) → TellsMore content FILE_BYTES × (reason ≡ LONG_FILE) → GivesRefused rule content reason
+refused_too_long : (rule : List ℕ → Refusal → Type 0) (content : Option (Option (List ℕ))) (reason : Refusal) → ((bytes : List ℕ) → file_bytes < length bytes → rule bytes LONG_FILE) → TellsMore content file_bytes × (reason ≡ LONG_FILE) → GivesRefused rule content reason
 refused_too_long rule content reason long more =
-    let given = too_long content FILE_BYTES more.0 in
+    let given = too_long content file_bytes more.0 in
     subst (GivesRefused rule content) (sym more.1) (given.0, given.1, long given.0 given.2)
 
 module _ (before after : SeenShelf) (file : List ℕ) where
-  not_taken_refused : (rule : List ℕ → Refusal → Type 0) (reason : Refusal) → ((bytes : List ℕ) → FILE_BYTES < length bytes → rule bytes LONG_FILE) → NotTaken before after file FILE_BYTES LONG_FILE (Refused reason) → GivesRefused rule (before.content file) reason
+  not_taken_refused : (rule : List ℕ → Refusal → Type 0) (reason : Refusal) → ((bytes : List ℕ) → file_bytes < length bytes → rule bytes LONG_FILE) → NotTaken before after file file_bytes LONG_FILE (Refused reason) → GivesRefused rule (before.content file) reason
   not_taken_refused rule refusals.NoMemory long why = tt
   not_taken_refused rule (refusals.Malformed at) long why = refused_too_long rule (before.content file) (refusals.Malformed at) long why
   not_taken_refused rule (refusals.Outside line) long why = refused_too_long rule (before.content file) (refusals.Outside line) long why
   not_taken_refused rule (refusals.Limit which count) long why = refused_too_long rule (before.content file) (refusals.Limit which count) long why
 
-  not_taken_compile : (image : List ℕ) (ending : Ending) → NotTaken before after file FILE_BYTES LONG_FILE ending → ExplainsCompile before after file image ending
+  not_taken_compile : (image : List ℕ) (ending : Ending) → NotTaken before after file file_bytes LONG_FILE ending → ExplainsCompile before after file image ending
   not_taken_compile image Done why = absurd why
   not_taken_compile image Usage why = absurd why
   not_taken_compile image (Refused reason) why = not_taken_refused refused.Refused reason (λ bytes long. (long, refl)) why
@@ -59,7 +60,7 @@ module _ (before after : SeenShelf) (file : List ℕ) where
   not_taken_compile image (NotImage at) why = absurd why
   not_taken_compile image (Ran end bound) why = absurd why
 
-  not_taken_list : (out : SeenSink) (ending : Ending) → NotTaken before after file FILE_BYTES LONG_FILE ending → ExplainsList before after out out file ending
+  not_taken_list : (out : SeenSink) (ending : Ending) → NotTaken before after file file_bytes LONG_FILE ending → ExplainsList before after out out file ending
   not_taken_list out Done why = absurd why
   not_taken_list out Usage why = absurd why
   not_taken_list out (Refused reason) why = (not_taken_refused Unlistable reason (λ bytes long. (long, refl)) why, refl)
@@ -69,11 +70,11 @@ module _ (before after : SeenShelf) (file : List ℕ) where
   not_taken_list out (Ran end bound) why = absurd why
 
   -- a command that could not take its file
-  pub explained_not_taken_compile : (image : List ℕ) (ending : Told) (answer : Result Unit Told) → NotTaken before after file FILE_BYTES LONG_FILE (told ending) → IsErrAnd answer (λ e. e ≡ ending) → ExplainsCompile before after file image (ended answer)
+  pub explained_not_taken_compile : (image : List ℕ) (ending : Told) (answer : Result Unit Told) → NotTaken before after file file_bytes LONG_FILE (told ending) → IsErrAnd answer (λ e. e ≡ ending) → ExplainsCompile before after file image (ended answer)
   explained_not_taken_compile image ending (Ok _) why is = absurd is
   explained_not_taken_compile image ending (Err e) why is = subst (λ x. ExplainsCompile before after file image (told x)) (sym is) (not_taken_compile image (told ending) why)
 
-  pub explained_not_taken_list : (out : SeenSink) (ending : Told) (answer : Result Unit Told) → NotTaken before after file FILE_BYTES LONG_FILE (told ending) → IsErrAnd answer (λ e. e ≡ ending) → ExplainsList before after out out file (ended answer)
+  pub explained_not_taken_list : (out : SeenSink) (ending : Told) (answer : Result Unit Told) → NotTaken before after file file_bytes LONG_FILE (told ending) → IsErrAnd answer (λ e. e ≡ ending) → ExplainsList before after out out file (ended answer)
   explained_not_taken_list out ending (Ok _) why is = absurd is
   explained_not_taken_list out ending (Err e) why is = subst (λ x. ExplainsList before after out out file (told x)) (sym is) (not_taken_list out (told ending) why)
 

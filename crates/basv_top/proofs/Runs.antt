@@ -1,13 +1,13 @@
 -- Why `run` ends as it does, and what it writes.
 use Rattle.std.proofs.Common.{◌≡◌, ◌⊎◌, inl, inr, ℕ, ◌<◌, ◌≤◌, List, [], length, Option, Some, None, Result, Ok, Err, IsErrAnd, refl, sym, ap, subst, ◌∙◌, arith}
-use Rattle.bv_io.specs.declared.report.Report.TheVariants as reports
-use Rattle.bv_io.specs.declared.report.RunEnd.{RunEnd}
-use Rattle.bv_io.specs.declared.report.RunEnd.TheVariants as ends
-use Rattle.bv_io.specs.Outcome.{output_of}
-use Rattle.bv_io.specs.Runs.{run, written_by, shown}
+use Rattle.bv_run.specs.declared.report.Report.TheVariants as reports
+use Rattle.bv_run.specs.declared.report.RunEnd.{RunEnd}
+use Rattle.bv_run.specs.declared.report.RunEnd.TheVariants as ends
+use Rattle.bv_run.specs.Outcome.{output_of}
+use Rattle.bv_run.specs.Runs.{run, output_so_far, outcome_of}
 use Rattle.bv_io.specs.Shelf.{Rose, Tells, TellsMore}
 use Rattle.bv_io.specs.Sink.{with_bytes, WritesPart}
-use Rattle.bv_io.proofs.Agreement.{output-shown}
+use Rattle.bv_run.proofs.Agreement.{output-outcome_of}
 use Rattle.arm2_machine.specs.declared.image.ImageError.{ImageError}
 use Rattle.arm2_machine.specs.declared.image.ImageError.TheVariants as image_errors
 use Rattle.arm2_machine.specs.Words.{AreWords}
@@ -20,7 +20,8 @@ use Rattle.arm2_machine.proofs.Memory.{length-flat_map-word_bytes}
 use Rattle.basv_top.specs.declared.ending.Ending.{Ending as Told}
 use Rattle.bas_compile.specs.declared.refusal.Refusal.{Refusal}
 use Rattle.bas_compile.specs.declared.refusal.Refusal.TheVariants as refusals
-use Rattle.basv_top.specs.declared.limits.TheConstants.{IMAGE_BYTES, LONG_IMAGE}
+use Rattle.bv_base.specs.Limits.{image_bytes}
+use Rattle.basv_top.specs.declared.limits.TheConstants.{LONG_IMAGE}
 use Rattle.basv_top.specs.declared.status.Status.{Status}
 use Rattle.basv_top.specs.declared.status.Status.TheVariants as statuses
 use Rattle.basv_top.specs.declared.top.TheConstants.{GREATEST_BOUND}
@@ -33,10 +34,10 @@ use Rattle.basv_top.proofs.Endings.{too_long}
 use Rattle.basv_top.proofs.Causes.{told_is, can_read, silent_unless_listed}
 
 -- a run that ended so shows that end, and has written its bytes
-end_shown : (arena : _) (p : _) (end : RunEnd) (machine : _) (bytes : List ℕ) → p ≡ progress_of end machine bytes → end_of (shown arena p) ≡ end
-end_shown arena p end machine bytes goes = ap (λ q. end_of (shown arena q)) goes ∙ of_end end
+end_of_outcome : (arena : _) (p : _) (end : RunEnd) (machine : _) (bytes : List ℕ) → p ≡ progress_of end machine bytes → end_of (outcome_of arena p) ≡ end
+end_of_outcome arena p end machine bytes goes = ap (λ q. end_of (outcome_of arena q)) goes ∙ of_end end
   where
-    of_end : (end : RunEnd) → end_of (shown arena (progress_of end machine bytes)) ≡ end
+    of_end : (end : RunEnd) → end_of (outcome_of arena (progress_of end machine bytes)) ≡ end
     of_end (ends.Over report) = refl
     of_end ends.Going = refl
     of_end (ends.Broken kind address) = refl
@@ -53,7 +54,7 @@ image≢unrunnable bytes words (endings.NotImage at) are is why = (one_image byt
 image≢unrunnable bytes words (endings.Ran end bound) are is why = why
 
 -- too many bytes or words, and no image
-long≢unlike : (bytes : List ℕ) (at : ℕ) → (IMAGE_BYTES < length bytes) ⊎ IsTooLong bytes → (length bytes ≤ IMAGE_BYTES) × NotImage bytes at → ⊥
+long≢unlike : (bytes : List ℕ) (at : ℕ) → (image_bytes < length bytes) ⊎ IsTooLong bytes → (length bytes ≤ image_bytes) × NotImage bytes at → ⊥
 long≢unlike bytes at (inl long) why = omega (arith, long, why.0)
 long≢unlike bytes at (inr long) why = long≢no_image bytes at long why.1
 
@@ -81,18 +82,18 @@ unrunnable_once bytes (endings.NotImage at) (endings.NotImage place) why other =
 
 -- a run of words from where the board was loaded
 module _ (out_before out_after : SeenSink) (words : List ℕ) (machine : _) (is_loaded : machine ≡ loaded words []) where
-  written_is_output : written_by (run board_step GREATEST_BOUND machine []) ≡ output_of (image_run words)
-  written_is_output = ap (λ m. written_by (run board_step GREATEST_BOUND m [])) is_loaded ∙ sym (output-shown _ (run board_step GREATEST_BOUND (loaded words []) []))
+  written_is_output : output_so_far (run board_step GREATEST_BOUND machine []) ≡ output_of (image_run words)
+  written_is_output = ap (λ m. output_so_far (run board_step GREATEST_BOUND m [])) is_loaded ∙ sym (output-outcome_of _ (run board_step GREATEST_BOUND (loaded words []) []))
 
   -- it came to its end or its bound
-  pub explained_ended : (end : RunEnd) (last : _) → run board_step GREATEST_BOUND machine [] ≡ progress_of end last (written_by (run board_step GREATEST_BOUND machine [])) → out_after.written ≡ with_bytes out_before.written (written_by (run board_step GREATEST_BOUND machine [])) → ExplainsWords words out_before out_after (endings.Ran end GREATEST_BOUND)
+  pub explained_ended : (end : RunEnd) (last : _) → run board_step GREATEST_BOUND machine [] ≡ progress_of end last (output_so_far (run board_step GREATEST_BOUND machine [])) → out_after.written ≡ with_bytes out_before.written (output_so_far (run board_step GREATEST_BOUND machine [])) → ExplainsWords words out_before out_after (endings.Ran end GREATEST_BOUND)
   explained_ended end last goes writes =
       let comes = ap (λ m. run board_step GREATEST_BOUND m []) (sym is_loaded) ∙ goes in
-      let ends_so : end_of (image_run words) ≡ end = end_shown _ (run board_step GREATEST_BOUND (loaded words []) []) end last _ comes in
+      let ends_so : end_of (image_run words) ≡ end = end_of_outcome _ (run board_step GREATEST_BOUND (loaded words []) []) end last _ comes in
       (sym ends_so, refl, writes ∙ ap (λ b. with_bytes out_before.written b) written_is_output)
 
   -- the output did not take what it wrote
-  pub explained_fault : (answer : Result RunEnd Told) → WritesPart out_before.written (written_by (run board_step GREATEST_BOUND machine [])) out_after.written → Rose out_before.faults out_after.faults → IsErrAnd answer (λ e. told e ≡ endings.WriteFault) → ExplainsWords words out_before out_after (ended_run answer GREATEST_BOUND)
+  pub explained_fault : (answer : Result RunEnd Told) → WritesPart out_before.written (output_so_far (run board_step GREATEST_BOUND machine [])) out_after.written → Rose out_before.faults out_after.faults → IsErrAnd answer (λ e. told e ≡ endings.WriteFault) → ExplainsWords words out_before out_after (ended_run answer GREATEST_BOUND)
   explained_fault (Ok _) part rose is = absurd is
   explained_fault (Err e) part rose is =
       subst (ExplainsWords words out_before out_after) (sym is) (subst (λ b. WritesPart out_before.written b out_after.written) written_is_output part, rose)
@@ -105,10 +106,10 @@ module _ (before after : SeenShelf) (image : List ℕ) where
   explained_refusal out (refusals.Outside line) why = (why, refl)
   explained_refusal out (refusals.Limit which count) why = (why, refl)
 
-  long_taken : (reason : Refusal) → TellsMore (before.content image) IMAGE_BYTES × (reason ≡ LONG_IMAGE) → GivesUnrunnable before image (endings.Refused reason)
-  long_taken reason why = let given = too_long (before.content image) IMAGE_BYTES why.0 in (given.0, given.1, (inl given.2, why.1))
+  long_taken : (reason : Refusal) → TellsMore (before.content image) image_bytes × (reason ≡ LONG_IMAGE) → GivesUnrunnable before image (endings.Refused reason)
+  long_taken reason why = let given = too_long (before.content image) image_bytes why.0 in (given.0, given.1, (inl given.2, why.1))
 
-  not_taken_run : (out : SeenSink) (ending : Ending) → NotTaken before after image IMAGE_BYTES LONG_IMAGE ending → ExplainsRun before after out out image ending
+  not_taken_run : (out : SeenSink) (ending : Ending) → NotTaken before after image image_bytes LONG_IMAGE ending → ExplainsRun before after out out image ending
   not_taken_run out endings.Done why = absurd why
   not_taken_run out endings.Usage why = absurd why
   not_taken_run out (endings.Refused refusals.NoMemory) why = refl
@@ -120,17 +121,17 @@ module _ (before after : SeenShelf) (image : List ℕ) where
   not_taken_run out (endings.NotImage at) why = absurd why
   not_taken_run out (endings.Ran end bound) why = absurd why
 
-  pub explained_not_taken_run : (out : SeenSink) (ending : Told) (answer : Result RunEnd Told) (bound : ℕ) → NotTaken before after image IMAGE_BYTES LONG_IMAGE (told ending) → IsErrAnd answer (λ e. e ≡ ending) → ExplainsRun before after out out image (ended_run answer bound)
+  pub explained_not_taken_run : (out : SeenSink) (ending : Told) (answer : Result RunEnd Told) (bound : ℕ) → NotTaken before after image image_bytes LONG_IMAGE (told ending) → IsErrAnd answer (λ e. e ≡ ending) → ExplainsRun before after out out image (ended_run answer bound)
   explained_not_taken_run out ending (Ok _) bound why is = absurd is
   explained_not_taken_run out ending (Err e) bound why is = subst (λ x. ExplainsRun before after out out image (told x)) (sym is) (not_taken_run out (told ending) why)
 
   -- an image that could not be read
-  unread : (out : SeenSink) (bytes : List ℕ) (error : ImageError) → Tells (before.content image) (Some bytes) → length bytes ≤ IMAGE_BYTES → ExplainsImage bytes error → ExplainsRun before after out out image (image_ending error)
+  unread : (out : SeenSink) (bytes : List ℕ) (error : ImageError) → Tells (before.content image) (Some bytes) → length bytes ≤ image_bytes → ExplainsImage bytes error → ExplainsRun before after out out image (image_ending error)
   unread out bytes (image_errors.NotImage at) given short why = ((bytes, given, (short, why)), refl)
   unread out bytes image_errors.TooLong given short why = ((bytes, given, (inr why, refl)), refl)
   unread out bytes image_errors.NoMemory given short why = refl
 
-  pub explained_unread : (out : SeenSink) (bytes : List ℕ) (error : ImageError) (answer : Result RunEnd Told) (bound : ℕ) → Tells (before.content image) (Some bytes) → length bytes ≤ IMAGE_BYTES → ExplainsImage bytes error → IsErrAnd answer (λ e. told e ≡ image_ending error) → ExplainsRun before after out out image (ended_run answer bound)
+  pub explained_unread : (out : SeenSink) (bytes : List ℕ) (error : ImageError) (answer : Result RunEnd Told) (bound : ℕ) → Tells (before.content image) (Some bytes) → length bytes ≤ image_bytes → ExplainsImage bytes error → IsErrAnd answer (λ e. told e ≡ image_ending error) → ExplainsRun before after out out image (ended_run answer bound)
   explained_unread out bytes error (Ok _) bound given short why is = absurd is
   explained_unread out bytes error (Err e) bound given short why is = subst (λ x. ExplainsRun before after out out image x) (sym is) (unread out bytes error given short why)
 

@@ -3,14 +3,14 @@ use Rattle.std.specs.Prelude.{ℕ, ◌+◌, ◌/◌, ◌%◌, ◌^◌, List, [],
 use Rattle.std.specs.Fmt.{signed_decimal}
 use Rattle.arm2_machine.specs.declared.image.ImageError.{ImageError}
 use Rattle.arm2_machine.specs.declared.image.ImageError.TheVariants as image_errors
-use Rattle.arm2_machine.specs.declared.layout.TheConstants.{IMAGE_WORDS}
+use Rattle.bv_base.specs.Limits.{image_words}
 use Rattle.bv_num.specs.Digits.{digit_byte}
-use Rattle.bv_io.specs.declared.report.Report.{Report}
-use Rattle.bv_io.specs.declared.report.Report.TheVariants as reports
-use Rattle.bv_io.specs.declared.report.RunEnd.{RunEnd}
-use Rattle.bv_io.specs.declared.report.RunEnd.TheVariants as ends
-use Rattle.bv_io.specs.declared.report.Trap.{Trap}
-use Rattle.bv_io.specs.declared.report.Trap.TheVariants as traps
+use Rattle.bv_run.specs.declared.report.Report.{Report}
+use Rattle.bv_run.specs.declared.report.Report.TheVariants as reports
+use Rattle.bv_run.specs.declared.report.RunEnd.{RunEnd}
+use Rattle.bv_run.specs.declared.report.RunEnd.TheVariants as ends
+use Rattle.bv_run.specs.declared.report.Trap.{Trap}
+use Rattle.bv_run.specs.declared.report.Trap.TheVariants as traps
 use Rattle.bv_io.specs.declared.shelf.TakeError.{TakeError}
 use Rattle.bv_io.specs.declared.shelf.TakeError.TheVariants as take_errors
 use Rattle.bv_io.specs.declared.shelf.PutError.{PutError}
@@ -183,7 +183,7 @@ ended_run (Err ending) bound = told ending
 
 -- how an image of too many words is refused: the count stops one past the limit
 abbrev pub too_many_words : Refusal
-too_many_words = refusals.Limit limits.Image (IMAGE_WORDS + 1)
+too_many_words = refusals.Limit limits.Image (image_words + 1)
 
 -- how `run` ends whose image could not be read
 abbrev pub image_ending : ImageError → Ending

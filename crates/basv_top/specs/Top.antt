@@ -1,8 +1,8 @@
 -- What a command does, and why it ends as it does. This project's own.
 use Rattle.std.specs.Prelude.{◌≡◌, ◌⊎◌, ℕ, ◌<◌, ◌≤◌, List, [], length, flat_map, Option, Some, None}
-use Rattle.bv_io.specs.declared.report.RunEnd.{RunEnd}
-use Rattle.bv_io.specs.declared.report.RunEnd.TheVariants as ends
-use Rattle.bv_io.specs.Outcome.{Outcome, Over, Going, Broken, output_of}
+use Rattle.bv_run.specs.declared.report.RunEnd.{RunEnd}
+use Rattle.bv_run.specs.declared.report.RunEnd.TheVariants as ends
+use Rattle.bv_run.specs.Outcome.{Outcome, Over, Going, Broken, output_of}
 use Rattle.bv_io.specs.Shelf.{Rose, Tells, TellsMore}
 use Rattle.bv_io.specs.Sink.{with_bytes, WritesPart}
 use Rattle.token_file.specs.declared.line.Line.{Line}
@@ -15,8 +15,7 @@ use Rattle.arm2_machine.specs.Step.{board_run}
 use Rattle.bas_compile.specs.declared.item.ProgramLine.{ProgramLine}
 use Rattle.bas_compile.specs.declared.refusal.Refusal.{Refusal}
 use Rattle.bas_compile.specs.declared.refusal.Refusal.TheVariants as refusals
-use Rattle.bas_compile.specs.declared.refusal.TheConstants.{FILE_BYTES}
-use Rattle.basv_top.specs.declared.limits.TheConstants.{IMAGE_BYTES}
+use Rattle.bv_base.specs.Limits.{file_bytes, image_bytes}
 use Rattle.basv_top.specs.declared.status.Status.{Status}
 use Rattle.basv_top.specs.declared.status.Status.TheVariants as statuses
 use Rattle.basv_top.specs.declared.top.TheConstants.{GREATEST_BOUND}
@@ -39,7 +38,7 @@ pub record WritesImage (before after : SeenShelf) (file image : List ℕ) : Type
 pub record GivesLines (before : SeenShelf) (file : List ℕ) (lines : List Line) : Type 0 where
   pub bytes : List ℕ
   pub given : Tells (before.content file) (Some bytes)
-  pub short : length bytes ≤ FILE_BYTES
+  pub short : length bytes ≤ file_bytes
   pub read : Lines bytes lines
 
 -- the listing of every line, in order
@@ -126,8 +125,8 @@ HasRun words out_before out_after status = (status ≡ end_status (end_of (image
 -- The bytes of an image's file are refused so by `run`: they are too many, or say that they have too many words, or are
 -- no image.
 abbrev pub Unrunnable : List ℕ → Ending → Type 0
-Unrunnable bytes (Refused reason) = ((IMAGE_BYTES < length bytes) ⊎ IsTooLong bytes) × (reason ≡ too_many_words)
-Unrunnable bytes (NotImage at) = (length bytes ≤ IMAGE_BYTES) × images.NotImage bytes at
+Unrunnable bytes (Refused reason) = ((image_bytes < length bytes) ⊎ IsTooLong bytes) × (reason ≡ too_many_words)
+Unrunnable bytes (NotImage at) = (length bytes ≤ image_bytes) × images.NotImage bytes at
 Unrunnable bytes ending = ⊥
 
 -- The shelf gave bytes under IMAGE that `run` refuses so.

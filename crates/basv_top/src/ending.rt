@@ -5,7 +5,9 @@ use crate::limits::LONG_IMAGE;
 use crate::status::Status;
 use arm2_machine::ImageError;
 use bas_compile::Refusal;
-use bv_io::{NoMemory, PutError, Report, RunEnd, SinkFault, TakeError};
+use bv_base::NoMemory;
+use bv_io::{PutError, SinkFault, TakeError};
+use bv_run::{Report, RunEnd};
 use token_file::FileError;
 
 /// How a command ended, with what its line on the error output tells.

@@ -1,7 +1,7 @@
 ghost use Rattle.std.specs.Prelude.{◌≡◌, IfOk};
 ghost use Rattle.basv_top.specs.Top.{listings};
 
-use bv_io::NoMemory;
+use bv_base::NoMemory;
 use lister::list_line;
 use std::alloc::Global;
 use token_file::Line;

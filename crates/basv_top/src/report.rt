@@ -8,7 +8,8 @@ ghost use Rattle.basv_top.specs.Seen.{Writes, seen_sink};
 use crate::ending::Ending;
 use crate::status::Status;
 use bas_compile::{Refusal, Which};
-use bv_io::{Report, RunEnd, Sink, SinkFault, Trap};
+use bv_io::{Sink, SinkFault};
+use bv_run::{Report, RunEnd, Trap};
 use bv_num::digit_byte;
 use itoa::Buffer;
 

@@ -16,13 +16,15 @@ ghost use Rattle.basv_top.specs.Top.{WritesImage, GivesLines, listings, Unlistab
 
 use crate::command::{Command, read_command};
 use crate::ending::Ending;
-use crate::limits::{IMAGE_BYTES, LONG_IMAGE};
+use crate::limits::LONG_IMAGE;
 use crate::listing::list_lines;
 use crate::report::report;
 use crate::status::Status;
-use arm2_machine::{Board, IMAGE_WORDS, read_image};
-use bas_compile::{FILE_BYTES, LONG_FILE, Refusal, compile};
-use bv_io::{RunEnd, Shelf, Sink};
+use arm2_machine::{Board, read_image};
+use bas_compile::{LONG_FILE, Refusal, compile};
+use bv_base::{FILE_BYTES, IMAGE_BYTES, IMAGE_WORDS};
+use bv_io::{Shelf, Sink};
+use bv_run::RunEnd;
 use std::alloc::Global;
 use token_file::read_file;
 

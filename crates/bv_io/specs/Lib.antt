@@ -1,8 +1,5 @@
 pub mod Shelf
 pub mod Sink
-pub mod Outcome
-pub mod Runs
-pub mod Bytes
 pub mod Files
 pub mod Answers
 pub mod MemShelf

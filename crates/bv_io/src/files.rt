@@ -3,7 +3,8 @@ ghost use Rattle.std.specs.Option.{option_copied, option_map};
 ghost use Rattle.std.specs.FinMap as map;
 ghost use Rattle.bv_io.specs.Answers.{AnswersContent};
 
-use crate::shelf::{NoMemory, TakeError};
+use crate::shelf::TakeError;
+use bv_base::NoMemory;
 use std::alloc::Global;
 use std::collections::BTreeMap;
 use std::marker::Model;

@@ -4,7 +4,8 @@ ghost use Rattle.bv_io.specs.Shelf.{Rose, Tells, TellsMore};
 ghost use Rattle.bv_io.specs.MemShelf.{empty_shelf, next_call, FailsNext, TakesFrom, PutsInto};
 
 use crate::files::{Files, content_within};
-use crate::shelf::{NoMemory, PutError, Shelf, TakeError};
+use crate::shelf::{PutError, Shelf, TakeError};
+use bv_base::NoMemory;
 use std::alloc::Global;
 use std::marker::Model;
 

@@ -1,8 +1,8 @@
 ghost use Rattle.std.specs.Prelude.{◌≡◌, ℕ, ◌≤◌, ◌↔◌, [], ◌∷◌, ◌++◌, length, Some, Contains, IsTrue, IfOk, OnOk, OnErr};
 ghost use Rattle.bv_io.specs.MemSink.{empty_sink, MayWrite, wrote, failed, next_write};
 
-use crate::shelf::NoMemory;
 use crate::sink::{Sink, SinkFault};
+use bv_base::NoMemory;
 use std::alloc::Global;
 use std::marker::Model;
 

@@ -1,23 +1,7 @@
 ghost use Rattle.std.specs.Prelude.{◌≡◌, ◌≢◌, ℕ, ◌≤◌, List, Option, Some, None, IfOk, OnOk, IsErrOf, vec_len};
 ghost use Rattle.bv_io.specs.Shelf.{Rose, Tells, TellsMore};
 
-use std::alloc::{AllocError, AllocFailed, Global};
-
-/// There was no memory for an answer.
-#[derive(Clone, Copy, Debug, PartialEq, Eq)]
-pub struct NoMemory;
-
-impl From<AllocError> for NoMemory {
-    fn from(_error: AllocError) -> NoMemory {
-        NoMemory
-    }
-}
-
-impl<T: Drop> From<AllocFailed<T>> for NoMemory {
-    fn from(_error: AllocFailed<T>) -> NoMemory {
-        NoMemory
-    }
-}
+use std::alloc::Global;
 
 /// Why a shelf did not give a content.
 #[derive(Clone, Copy, Debug, PartialEq, Eq)]

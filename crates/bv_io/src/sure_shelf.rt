@@ -2,7 +2,8 @@ ghost use Rattle.std.specs.Prelude.{◌≡◌, [], Some, OnOk, OnErr, unwrap_or}
 ghost use Rattle.std.specs.FinMap as map;
 
 use crate::files::{Files, content_within};
-use crate::shelf::{NoMemory, PutError, Shelf, TakeError};
+use crate::shelf::{PutError, Shelf, TakeError};
+use bv_base::NoMemory;
 use std::alloc::Global;
 use std::marker::Model;
 

@@ -1,7 +1,7 @@
 -- Laws of lists of bytes.
 use Rattle.std.proofs.Common.{◌≡◌, ℕ, ◌+◌, [], ◌∷◌, ◌++◌, length, refl}
-use Rattle.bv_io.specs.Bytes.{zeros}
-use Rattle.bv_io.proofs.Zeros.{zeros-add, length-zeros}
+use Rattle.bv_base.specs.Bytes.{zeros}
+use Rattle.bv_base.proofs.Zeros.{zeros-add, length-zeros}
 
 pub zeros_length : (n : ℕ) → length (zeros n) ≡ n
 zeros_length = length-zeros

@@ -1,9 +1,9 @@
 ghost use Rattle.std.specs.Prelude.{◌≡◌, ◌+◌, ◌-◌, ◌%◌, ◌<◌, ◌≤◌, [], ◌∷◌, length, slice_index, slice_range, slice_set, IfOk};
-ghost use Rattle.bv_io.specs.Bytes.{zeros};
+ghost use Rattle.bv_base.specs.Bytes.{zeros};
 ghost use Rattle.bv_ram.specs.Words.{word_bytes, word_at, put_at, repeated};
 
 use crate::block::{Block, Lease};
-use bv_io::NoMemory;
+use bv_base::NoMemory;
 use std::alloc::Global;
 use std::marker::Model;
 

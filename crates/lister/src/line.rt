@@ -2,7 +2,7 @@ ghost use Rattle.std.specs.Prelude.{◌≡◌, ◌++◌, length, decimal, false,
 ghost use Rattle.lister.specs.Listing.{justified, listed, listing};
 
 use crate::symbol::push_symbol;
-use bv_io::NoMemory;
+use bv_base::NoMemory;
 use itoa::Buffer;
 use std::alloc::{AllocError, Global};
 use token_file::Line;

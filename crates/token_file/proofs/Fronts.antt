@@ -2,8 +2,8 @@
 use Rattle.std.proofs.Common.{◌≡◌, ◌≢◌, ◌≤◌, ◌↔◌, IsTrue, not, ℕ, ◌+◌, ◌*◌, ◌/◌, ◌%◌, ◌<◌, Bool, true, false, nat_eq, List, [], ◌∷◌, ◌++◌, length, take, drop, refl, sym, ◌∙◌, arith, take-append-drop, subst, true≢false, ◌||◌, eqb-true, eq-eqb}
 use Rattle.std.specs.List.{AllByRecursion, list_any}
 use Rattle.token_file.specs.declared.line.Line.{Line}
-use Rattle.bv_token.specs.declared.line.TheConstants.{LONGEST_TEXT}
-use Rattle.token_file.specs.declared.line.TheConstants.{LINE_NUMBERS, RECORD_START, END_MARK, HEAD_BYTES}
+use Rattle.bv_base.specs.Limits.{longest_text, line_numbers}
+use Rattle.token_file.specs.declared.line.TheConstants.{RECORD_START, END_MARK, HEAD_BYTES}
 use Rattle.token_file.specs.Lines.{record_of, IsLine, BeginsRecord}
 use Rattle.bv_token.proofs.Lists.{same_head, same_tail, same_fronts}
 
@@ -47,7 +47,7 @@ is_record high low size count whole text after joined high_small low_small size_
     (record { number = omega arith; short = omega arith; text = no_start text none }, (λ i. RECORD_START ∷ at_high i ∷ at_low i ∷ at_size i ∷ joined i))
 
 -- a line whose number and length a record can hold, by its text
-pub fits_text : (line : Line) (text : List ℕ) (has_start : Bool) → line.number < LINE_NUMBERS → length line.text ≤ LONGEST_TEXT → text ≡ line.text → has_start ≡ list_any is_start text → IsTrue (not has_start) ↔ IsLine line
+pub fits_text : (line : Line) (text : List ℕ) (has_start : Bool) → line.number < line_numbers → length line.text ≤ longest_text → text ≡ line.text → has_start ≡ list_any is_start text → IsTrue (not has_start) ↔ IsLine line
 fits_text line text false number short is none =
     (λ _. record { number = number; short = short; text = subst (AllByRecursion (λ b. b ≢ RECORD_START)) is (no_start text (sym none)) }, λ _. refl)
 fits_text line text true number short is some =

@@ -3,8 +3,8 @@
 use Rattle.std.specs.Prelude.{◌≡◌, ◌≢◌, ℕ, ◌+◌, ◌/◌, ◌%◌, ◌<◌, ◌≤◌, List, [], ◌∷◌, ◌++◌, length, flat_map}
 use Rattle.std.specs.List.{AllByRecursion}
 use Rattle.token_file.specs.declared.line.Line.{Line}
-use Rattle.bv_token.specs.declared.line.TheConstants.{LONGEST_TEXT}
-use Rattle.token_file.specs.declared.line.TheConstants.{RECORD_START, END_MARK, HEAD_BYTES, LINE_NUMBERS}
+use Rattle.bv_base.specs.Limits.{longest_text, line_numbers}
+use Rattle.token_file.specs.declared.line.TheConstants.{RECORD_START, END_MARK, HEAD_BYTES}
 
 -- the bytes of a line: the byte that begins a record, the number with its high byte first, the length of the head and
 -- the text together, the text
@@ -14,8 +14,8 @@ record_of line = RECORD_START ∷ (line.number / 256) ∷ (line.number % 256) �
 -- What can be a line: the number's high byte isn't the end's mark, the length is a byte, and the text has no byte that
 -- begins a record.
 pub record IsLine (line : Line) : Type 0 where
-  pub number : line.number < LINE_NUMBERS
-  pub short : length line.text ≤ LONGEST_TEXT
+  pub number : line.number < line_numbers
+  pub short : length line.text ≤ longest_text
   pub text : AllByRecursion (λ b. b ≢ RECORD_START) line.text
 
 -- A file of these lines: their records, then the end, then anything.

@@ -5,6 +5,6 @@ mod line;
 mod read;
 mod write;
 
-pub use line::{END_MARK, HEAD_BYTES, LINE_NUMBERS, Line, RECORD_START};
+pub use line::{END_MARK, HEAD_BYTES, Line, RECORD_START};
 pub use read::{FileError, read_file};
 pub use write::write_file;

@@ -1,4 +1,4 @@
-use bv_token::LONGEST_TEXT;
+use bv_base::{LINE_NUMBERS, LONGEST_TEXT};
 use sqlite_items::Items;
 
 /// The byte that begins each record, and the program's end. No text has it.
@@ -10,9 +10,6 @@ pub const END_MARK: u8 = 0xff;
 /// The number of bytes before a record's text: `RECORD_START`, two of the line's number, and one of the record's
 /// length.
 pub const HEAD_BYTES: u8 = 4;
-
-/// Line numbers are below this, since their high byte is below `END_MARK`.
-pub const LINE_NUMBERS: u16 = 0xff00;
 
 /// A line of a program: its number and its tokenised text.
 #[derive(Debug, Drop)]

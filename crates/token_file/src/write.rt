@@ -2,7 +2,7 @@ ghost use Rattle.std.specs.Prelude.{◌≡◌, ◌++◌, All, IfOk, OnOk};
 ghost use Rattle.token_file.specs.Lines.{IsLine, record_of, Lines, HasOneReading};
 
 use crate::line::{END_MARK, HEAD_BYTES, Line, RECORD_START};
-use bv_io::NoMemory;
+use bv_base::NoMemory;
 use std::alloc::{AllocError, Global};
 
 fn push_record(bytes: &mut Vec<u8>, line: &Line) -> Result<(), AllocError>

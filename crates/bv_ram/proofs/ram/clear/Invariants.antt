@@ -1,5 +1,5 @@
 use Rattle.std.proofs.Common.{◌≡◌}
-use Rattle.bv_io.specs.Bytes.{zeros}
+use Rattle.bv_base.specs.Bytes.{zeros}
 use Rattle.bv_ram.proofs.ram.clear.Given as goal
 
 abbrev pub invariant-loop-at : goal.invariant-loop-at

@@ -1,6 +1,6 @@
 use Rattle.std.proofs.Common.{◌≤◌, sym, ap, subst, ◌∙◌, ◌-◌, ◌+◌, ◌^◌, [], le_trans, le_refl, arith}
 use Rattle.std.proofs.lemmas.Grind.{common_steps}
-use Rattle.bv_io.specs.Runs.{Goes, Ended, Reports, Breaks, run, written_by}
+use Rattle.bv_run.specs.Runs.{Goes, Ended, Over, Broken, run, output_so_far}
 use Rattle.bv_io.specs.Sink.{WritesPart}
 use Rattle.bv_io.proofs.Loops.{so_far_starts, so_far_goes, so_far_stops, so_far_ends, so_far_faults}
 use Rattle.arm2_machine.specs.Board.{bytes_of}
@@ -34,30 +34,30 @@ returns-clause-steps g c = (so_far_ends board_step _ _ _ _ _ _ _ _ c.steps.invar
 
 pub returns-in-Over-clause-ends : goal.returns-in-Over-clause-ends
 returns-in-Over-clause-ends g c =
-    let r = so_far_stops board_step _ _ _ _ _ _ _ _ c.steps.invariant.so_far (c.args.bound - (c.steps.counter + 1)) _ (Reports c.in-Over.report) _ (omega arith) c.in-Over.ensures.value c.in-Over.ensures.steps in
-    r.comes ∙ ap (λ b. Ended b.machine (written_by (run board_step c.args.bound c.args.self.now.machine [])) (Reports c.in-Over.report)) (sym c.self-in-steps.view_is)
+    let r = so_far_stops board_step _ _ _ _ _ _ _ _ c.steps.invariant.so_far (c.args.bound - (c.steps.counter + 1)) _ (Over c.in-Over.report) _ (omega arith) c.in-Over.ensures.value c.in-Over.ensures.steps in
+    r.comes ∙ ap (λ b. Ended b.machine (output_so_far (run board_step c.args.bound c.args.self.now.machine [])) (Over c.in-Over.report)) (sym c.self-in-steps.view_is)
 
 pub returns-in-Broken-clause-ends : goal.returns-in-Broken-clause-ends
 returns-in-Broken-clause-ends g c =
-    let end = Breaks c.in-Broken.kind c.in-Broken.address in
+    let end = Broken c.in-Broken.kind c.in-Broken.address in
     let r = so_far_stops board_step _ _ _ _ _ _ _ _ c.steps.invariant.so_far (c.args.bound - (c.steps.counter + 1)) _ end _ (omega arith) c.in-Broken.ensures.value c.in-Broken.ensures.steps in
-    r.comes ∙ ap (λ b. Ended b.machine (written_by (run board_step c.args.bound c.args.self.now.machine [])) end) (sym c.self-in-steps.view_is)
+    r.comes ∙ ap (λ b. Ended b.machine (output_so_far (run board_step c.args.bound c.args.self.now.machine [])) end) (sym c.self-in-steps.view_is)
 
 pub returns-in-Over-clause-written : goal.returns-in-Over-clause-written
 returns-in-Over-clause-written g c =
-    (so_far_stops board_step _ _ _ _ _ _ _ _ c.steps.invariant.so_far (c.args.bound - (c.steps.counter + 1)) _ (Reports c.in-Over.report) _ (omega arith) c.in-Over.ensures.value c.in-Over.ensures.steps).writes
+    (so_far_stops board_step _ _ _ _ _ _ _ _ c.steps.invariant.so_far (c.args.bound - (c.steps.counter + 1)) _ (Over c.in-Over.report) _ (omega arith) c.in-Over.ensures.value c.in-Over.ensures.steps).writes
 
 pub returns-in-Broken-clause-written : goal.returns-in-Broken-clause-written
 returns-in-Broken-clause-written g c =
-    (so_far_stops board_step _ _ _ _ _ _ _ _ c.steps.invariant.so_far (c.args.bound - (c.steps.counter + 1)) _ (Breaks c.in-Broken.kind c.in-Broken.address) _ (omega arith) c.in-Broken.ensures.value c.in-Broken.ensures.steps).writes
+    (so_far_stops board_step _ _ _ _ _ _ _ _ c.steps.invariant.so_far (c.args.bound - (c.steps.counter + 1)) _ (Broken c.in-Broken.kind c.in-Broken.address) _ (omega arith) c.in-Broken.ensures.value c.in-Broken.ensures.steps).writes
 
 pub returns-in-Over-clause-steps : goal.returns-in-Over-clause-steps
 returns-in-Over-clause-steps g c =
-    ap (λ b. b.steps) c.self-in-steps.view_is ∙ (so_far_stops board_step _ _ _ _ _ _ _ _ c.steps.invariant.so_far (c.args.bound - (c.steps.counter + 1)) _ (Reports c.in-Over.report) _ (omega arith) c.in-Over.ensures.value c.in-Over.ensures.steps).counts
+    ap (λ b. b.steps) c.self-in-steps.view_is ∙ (so_far_stops board_step _ _ _ _ _ _ _ _ c.steps.invariant.so_far (c.args.bound - (c.steps.counter + 1)) _ (Over c.in-Over.report) _ (omega arith) c.in-Over.ensures.value c.in-Over.ensures.steps).counts
 
 pub returns-in-Broken-clause-steps : goal.returns-in-Broken-clause-steps
 returns-in-Broken-clause-steps g c =
-    ap (λ b. b.steps) c.self-in-steps.view_is ∙ (so_far_stops board_step _ _ _ _ _ _ _ _ c.steps.invariant.so_far (c.args.bound - (c.steps.counter + 1)) _ (Breaks c.in-Broken.kind c.in-Broken.address) _ (omega arith) c.in-Broken.ensures.value c.in-Broken.ensures.steps).counts
+    ap (λ b. b.steps) c.self-in-steps.view_is ∙ (so_far_stops board_step _ _ _ _ _ _ _ _ c.steps.invariant.so_far (c.args.bound - (c.steps.counter + 1)) _ (Broken c.in-Broken.kind c.in-Broken.address) _ (omega arith) c.in-Broken.ensures.value c.in-Broken.ensures.steps).counts
 
 pub returns-in-Err-clause-fault : goal.returns-in-Err-clause-fault
 returns-in-Err-clause-fault g c =

@@ -1,10 +1,11 @@
 -- How two runs come to agree, and that agreements compose.
 use Rattle.std.proofs.Common.{◌≡◌, ◌≢◌, ℕ, zero, suc, ◌+◌, ◌-◌, ◌≤◌, ◌⊎◌, inl, inr, List, refl, sym, ap, subst, ◌∙◌, arith}
-use Rattle.bv_io.specs.declared.report.Report.{Report}
-use Rattle.bv_io.specs.declared.report.Trap.{Trap}
-use Rattle.bv_io.specs.Outcome.{Outcome, Over, Going, Broken, output_of, IsPrefix, RunsAgree}
-use Rattle.bv_io.specs.Runs.{Turn, Progress, At, Ended, End, Reports, Breaks, run, written_by, shown}
-use Rattle.bv_io.proofs.RunLaws.{run-add, and_then, IsPrefix-refl, IsPrefix-trans, run_extends}
+use Rattle.bv_run.specs.declared.report.Report.{Report}
+use Rattle.bv_run.specs.declared.report.Trap.{Trap}
+use Rattle.bv_run.specs.Outcome.{Outcome, Over, Going, Broken, output_of, IsPrefix, RunsAgree}
+use Rattle.bv_run.specs.Runs.{Turn, Progress, End, run, output_so_far, outcome_of}
+use Rattle.bv_run.specs.Runs as runs
+use Rattle.bv_run.proofs.RunLaws.{run-add, and_then, IsPrefix-refl, IsPrefix-trans, run_extends}
 
 -- what a run that goes on shows at a greater bound: it begins with what was written
 abbrev pub Extends : Outcome → Outcome → Type 0
@@ -16,21 +17,21 @@ Extends (Going out arena) later = IsPrefix out (output_of later)
 pub record Grows (outcomes : ℕ → Outcome) : Type 0 where
   pub at : (n k : ℕ) → Extends (outcomes n) (outcomes (n + k))
 
-pub output-shown : {S : Type 0} (arena : S → List ℕ) (p : Progress S End) → output_of (shown arena p) ≡ written_by p
-output-shown arena (At s out) = refl
-output-shown arena (Ended s out (Reports report)) = refl
-output-shown arena (Ended s out (Breaks kind address)) = refl
+pub output-outcome_of : {S : Type 0} (arena : S → List ℕ) (p : Progress S End) → output_of (outcome_of arena p) ≡ output_so_far p
+output-outcome_of arena (runs.Going s out) = refl
+output-outcome_of arena (runs.Ended s out (runs.Over report)) = refl
+output-outcome_of arena (runs.Ended s out (runs.Broken kind address)) = refl
 
-shown_extends : {S : Type 0} (arena : S → List ℕ) (p : Progress S End) (f : S → List ℕ → Progress S End) → ((s : S) (o : List ℕ) → IsPrefix o (written_by (f s o))) → Extends (shown arena p) (shown arena (and_then p f))
-shown_extends arena (At s out) f extends = subst (IsPrefix out) (sym (output-shown arena (f s out))) (extends s out)
-shown_extends arena (Ended s out (Reports report)) f extends = refl
-shown_extends arena (Ended s out (Breaks kind address)) f extends = refl
+outcome_of_extends : {S : Type 0} (arena : S → List ℕ) (p : Progress S End) (f : S → List ℕ → Progress S End) → ((s : S) (o : List ℕ) → IsPrefix o (output_so_far (f s o))) → Extends (outcome_of arena p) (outcome_of arena (and_then p f))
+outcome_of_extends arena (runs.Going s out) f extends = subst (IsPrefix out) (sym (output-outcome_of arena (f s out))) (extends s out)
+outcome_of_extends arena (runs.Ended s out (runs.Over report)) f extends = refl
+outcome_of_extends arena (runs.Ended s out (runs.Broken kind address)) f extends = refl
 
 -- every machine that is given by its step grows
-pub grows_run : {S : Type 0} (arena : S → List ℕ) (step : S → Turn S End) (s : S) (out : List ℕ) → Grows (λ n. shown arena (run step n s out))
+pub grows_run : {S : Type 0} (arena : S → List ℕ) (step : S → Turn S End) (s : S) (out : List ℕ) → Grows (λ n. outcome_of arena (run step n s out))
 grows_run arena step s out = record {
-  at = λ n k. subst (λ p. Extends (shown arena (run step n s out)) (shown arena p)) (sym (run-add step n k s out))
-      (shown_extends arena (run step n s out) (run step k) (run_extends step k));
+  at = λ n k. subst (λ p. Extends (outcome_of arena (run step n s out)) (outcome_of arena p)) (sym (run-add step n k s out))
+      (outcome_of_extends arena (run step n s out) (run step k) (run_extends step k));
 }
 
 -- The target has come as far as the source at this bound, in at least as many steps.

@@ -1,16 +1,19 @@
-/// Why the processor could not carry out an instruction. The kinds are numbered 1 to 5, in this order, where a
-/// report hands one over in a register.
+//! The ways in which a run ends. This project's own.
+
+/// Why the processor could not execute an instruction. Where a report hands a kind over in a register, the kinds are
+/// numbered 1 to 5 in this order.
 #[derive(Clone, Copy, Debug, PartialEq, Eq)]
 pub enum Trap {
-    /// An access to memory that is not allowed.
+    /// An access to memory at an address that is not allowed.
     Data,
     /// An instruction at an address that is not allowed.
     Fetch,
     /// A word that is no instruction of the ARM2.
     Undefined,
-    /// A word whose effect the processor's manual leaves open.
+    /// A word that this project traps, since the ARM2's manual gives it no one effect.
     Unpredictable,
-    /// A software interrupt that the board does not have.
+    /// A software interrupt whose number the board does not have in the mode in which it comes, or that would end the
+    /// run with a report that is none.
     Swi,
 }
 
@@ -23,7 +26,7 @@ pub enum Report {
     Failed { error: i32, line: u16 },
     /// An access or a called routine left what it may use, or could not go on. `address` is in bytes.
     Stray { kind: Trap, address: u32, line: u16 },
-    /// The program asked for input behind the end of its input.
+    /// The program asked for input after the end of its input.
     InputEnded { line: u16 },
 }
 

@@ -1,6 +1,6 @@
 -- Laws of `zeros`, over any number of bytes.
 use Rattle.std.proofs.Common.{◌≡◌, ℕ, zero, suc, ◌+◌, List, ◌∷◌, ◌++◌, length, replicate, refl, ap, ◌∙◌, arith}
-use Rattle.bv_io.specs.Bytes.{zeros}
+use Rattle.bv_base.specs.Bytes.{zeros}
 
 length-replicate : (n : ℕ) → length (replicate {A = ℕ} n 0) ≡ n
 length-replicate zero = refl

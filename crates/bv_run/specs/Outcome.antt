@@ -1,7 +1,7 @@
 -- What a run under a bound shows, and when two runs agree. This project's own.
 use Rattle.std.specs.Prelude.{◌≡◌, ◌≢◌, ℕ, List, ◌++◌}
-use Rattle.bv_io.specs.declared.report.Report.{Report}
-use Rattle.bv_io.specs.declared.report.Trap.{Trap}
+use Rattle.bv_run.specs.declared.report.Report.{Report}
+use Rattle.bv_run.specs.declared.report.Trap.{Trap}
 
 -- The run is over, goes on, or its machine broke, with what was written and the arena.
 pub data Outcome : Type 0 where
