@@ -1,3 +1,4 @@
 mod FilesLemmas
 mod MemShelfLemmas
+mod Fieldless
 pub mod Loops

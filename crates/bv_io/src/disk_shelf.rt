@@ -1,5 +1,7 @@
-ghost use Rattle.std.specs.Prelude.{◌≡◌, ◌≢◌, ℕ, ◌≤◌, None, Err, IfOk, vec_len};
+//! The shelf of the real disk. It belongs to the trusted edge: that it reaches the right file is for a reader to see.
+ghost use Rattle.std.specs.Prelude.{◌≡◌, ◌≢◌, ℕ, ◌≤◌, [], None, Err, IfOk, vec_len};
 
+use crate::log::{Call, Log};
 use crate::shelf::{PutError, Shelf, TakeError};
 use std::alloc::Global;
 use std::fs;
@@ -8,30 +10,38 @@ use std::marker::Model;
 use std::rt::Files;
 
 /// The files of the disk, under their paths. It tells nothing of what it holds, and counts a file that is not there as
-/// a fault.
+/// a fault. What it was asked and answered stands in its log.
 #[derive(Drop)]
 pub struct DiskShelf<R: Files> {
     files: R,
     take_faults: u64,
     put_faults: u64,
+    log: Log,
 }
 
-// Its two counts of faults, of `take` and of `put`.
+// Its two counts of faults, of `take` and of `put`, and its log.
 impl<R: Files> Model for DiskShelf<R> {
-    ghost Value = { ℕ × ℕ };
+    ghost use Rattle.std.specs.Prelude.{ℕ, List};
+    ghost use Rattle.std.specs.Coded.{coded×, coded_ℕ};
+    ghost use Rattle.bv_io.specs.Log.{Event, log_code};
 
-    ghost view = { λ s. (s.take_faults, s.put_faults) };
+    ghost Value = { ℕ × (ℕ × List Event) };
+
+    ghost coded = { coded× coded_ℕ (coded× coded_ℕ log_code) };
+
+    ghost view = { λ s. (s.take_faults, (s.put_faults, s.log.events)) };
 }
 
 impl<R: Files> DiskShelf<R> {
     /// The shelf of the disk that the runtime reaches, with no fault so far.
     pub fn new(rt: R) -> DiskShelf<R>
-        ensures { result ≡ (0, 0) }
+        ensures { result ≡ (0, (0, [])) }
     {
         DiskShelf {
             files: rt,
             take_faults: 0,
             put_faults: 0,
+            log: Log::new(),
         }
     }
 }
@@ -63,21 +73,33 @@ impl<R: Files> Shelf for DiskShelf<R> {
 
     ghost take_faults = { λ s. s.0 };
 
-    ghost put_faults = { λ s. s.1 };
+    ghost put_faults = { λ s. s.1.0 };
+
+    ghost log = { λ s. s.1.1 };
 
     fn take(&mut self, alloc: Global, name: &str, max: u32) -> Result<Vec<u8>, TakeError> {
         let answer = read_within(&self.files, alloc, name, max);
         if answer == Err(TakeError::Failed) {
             self.take_faults = self.take_faults.saturating_add(1);
         }
+        self.log = self.log.then(&Call::Take {
+            name,
+            answer: &answer,
+        });
         answer
     }
 
     fn put(&mut self, name: &str, bytes: &[u8]) -> Result<(), PutError> {
+        let mut answer = Ok(());
         if fs::write(&self.files, name, bytes).is_err() {
             self.put_faults = self.put_faults.saturating_add(1);
-            return Err(PutError::Failed);
+            answer = Err(PutError::Failed);
         }
-        Ok(())
+        self.log = self.log.then(&Call::Put {
+            name,
+            bytes,
+            answer: &answer,
+        });
+        answer
     }
 }

@@ -4,6 +4,7 @@
 
 mod disk_shelf;
 mod files;
+mod log;
 mod mem_shelf;
 mod mem_sink;
 mod null_sink;

@@ -1,9 +1,12 @@
+//! A shelf in memory that can be made to fail, for tests and for callers without a disk.
 ghost use Rattle.std.specs.Prelude.{◌≡◌, ◌≢◌, ℕ, ◌+◌, ◌≤◌, ◌↔◌, [], ◌∷◌, ◌++◌, List, Option, Some, None, Contains, IsTrue, IfOk, OnOk, OnErr, IsErrOf, vec_len};
 ghost use Rattle.std.specs.FinMap as map;
+ghost use Rattle.bv_io.specs.Log.{take_event, put_event};
 ghost use Rattle.bv_io.specs.Shelf.{Rose, Tells, TellsMore};
-ghost use Rattle.bv_io.specs.MemShelf.{empty_shelf, next_call, FailsNext, TakesFrom, PutsInto};
+ghost use Rattle.bv_io.specs.MemShelf.{empty_shelf, with_call, with_event, FailsNext, AnswersTake, state_taken, AnswersPut, state_put};
 
 use crate::files::{Files, content_within};
+use crate::log::{Call, Log};
 use crate::shelf::{PutError, Shelf, TakeError};
 use bv_base::NoMemory;
 use std::alloc::Global;
@@ -18,6 +21,7 @@ pub struct MemShelf {
     failing: Vec<u64>,
     take_faults: u64,
     put_faults: u64,
+    log: Log,
 }
 
 impl Model for MemShelf {
@@ -27,7 +31,7 @@ impl Model for MemShelf {
 
     ghost coded = { state_code };
 
-    ghost view = { λ s. record { held = s.files; calls = s.calls; failing = s.failing.items; take_faults = s.take_faults; put_faults = s.put_faults } };
+    ghost view = { λ s. record { held = s.files; calls = s.calls; failing = s.failing.items; take_faults = s.take_faults; put_faults = s.put_faults; log = s.log.events } };
 }
 
 impl MemShelf {
@@ -41,6 +45,7 @@ impl MemShelf {
             failing: Vec::new(alloc),
             take_faults: 0,
             put_faults: 0,
+            log: Log::new(),
         }
     }
 
@@ -69,29 +74,15 @@ impl MemShelf {
     }
 
     fn count_call(&mut self)
-        ensures { self.new ≡ record self.old { calls = next_call self.old } }
+        ensures { self.new ≡ with_call self.old }
     {
         self.calls = self.calls.saturating_add(1);
     }
 
-    fn take_file(&mut self, alloc: Global, name: &str, max: u32) -> Result<Vec<u8>, TakeError>
-        ensures answer { TakesFrom self.old name.now max result self.new }
-        ensures faults { self.old.take_faults ≤ self.new.take_faults }
-    {
-        if self.fails_next() {
-            self.count_call();
-            self.take_faults = self.take_faults.saturating_add(1);
-            return Err(TakeError::Failed);
-        }
-        let answer = content_within(alloc, self.files.get(name), max);
-        if answer != Err(TakeError::NoMemory) {
-            self.count_call();
-        }
-        answer
-    }
-
-    fn put_file(&mut self, name: &str, bytes: &[u8]) -> Result<(), PutError>
-        ensures answer { PutsInto self.old name.now bytes.now result self.new }
+    /// Sets the content of a name, but for the log.
+    fn store(&mut self, name: &str, bytes: &[u8]) -> Result<(), PutError>
+        ensures answer { AnswersPut self.old result }
+        ensures state { self.new ≡ state_put self.old name.now bytes.now result }
         ensures faults { self.old.put_faults ≤ self.new.put_faults }
     {
         if self.fails_next() {
@@ -114,11 +105,65 @@ impl Shelf for MemShelf {
 
     ghost put_faults = { λ s. s.put_faults };
 
-    fn take(&mut self, alloc: Global, name: &str, max: u32) -> Result<Vec<u8>, TakeError> {
-        self.take_file(alloc, name, max)
+    ghost log = { λ s. s.log };
+
+    fn take(&mut self, alloc: Global, name: &str, max: u32) -> Result<Vec<u8>, TakeError>
+        // The answer, and the whole new state.
+        ensures answer { AnswersTake self.old name.now max result }
+        ensures state { self.new ≡ with_event (state_taken self.old result) (take_event name.now result) }
+
+        // What every shelf ensures.
+        ensures logged { self.new.log ≡ take_event name.now result ∷ self.old.log }
+        ensures found { IfOk result (λ bytes. Tells (Some (map.get self.old.held name.now)) (Some bytes.items)) }
+        ensures fits { IfOk result (λ bytes. vec_len bytes ≤ max) }
+        ensures missing { IsErrOf result TakeError.Missing → Some (map.get self.old.held name.now) ≡ Some None }
+        ensures calm { IsErrOf result TakeError.Missing → self.new.take_faults ≡ self.old.take_faults }
+        ensures too_long { IsErrOf result TakeError.TooLong → TellsMore (Some (map.get self.old.held name.now)) max }
+        ensures failed { IsErrOf result TakeError.Failed → Rose self.old.take_faults self.new.take_faults }
+        ensures no_memory { IsErrOf result TakeError.NoMemory → self.new.take_faults ≡ self.old.take_faults }
+        ensures same { (n : List ℕ) → Some (map.get self.new.held n) ≡ Some (map.get self.old.held n) }
+        ensures faults { self.old.take_faults ≤ self.new.take_faults }
+        ensures other_faults { self.new.put_faults ≡ self.old.put_faults }
+    {
+        let answer = if self.fails_next() {
+            Err(TakeError::Failed)
+        } else {
+            content_within(alloc, self.files.get(name), max)
+        };
+        if answer != Err(TakeError::NoMemory) {
+            self.count_call();
+        }
+        if answer == Err(TakeError::Failed) {
+            self.take_faults = self.take_faults.saturating_add(1);
+        }
+        self.log = self.log.then(&Call::Take {
+            name,
+            answer: &answer,
+        });
+        answer
     }
 
-    fn put(&mut self, name: &str, bytes: &[u8]) -> Result<(), PutError> {
-        self.put_file(name, bytes)
+    fn put(&mut self, name: &str, bytes: &[u8]) -> Result<(), PutError>
+        // The answer, and the whole new state.
+        ensures answer { AnswersPut self.old result }
+        ensures state { self.new ≡ with_event (state_put self.old name.now bytes.now result) (put_event name.now bytes.now result) }
+
+        // What every shelf ensures.
+        ensures logged { self.new.log ≡ put_event name.now bytes.now result ∷ self.old.log }
+        ensures stored { OnOk result (Tells (Some (map.get self.new.held name.now)) (Some bytes.now)) }
+        ensures failed { IsErrOf result PutError.Failed → Rose self.old.put_faults self.new.put_faults }
+        ensures no_memory { IsErrOf result PutError.NoMemory → (n : List ℕ) → Some (map.get self.new.held n) ≡ Some (map.get self.old.held n) }
+        ensures no_memory_calm { IsErrOf result PutError.NoMemory → self.new.put_faults ≡ self.old.put_faults }
+        ensures others { (n : List ℕ) → n ≢ name.now → Some (map.get self.new.held n) ≡ Some (map.get self.old.held n) }
+        ensures faults { self.old.put_faults ≤ self.new.put_faults }
+        ensures other_faults { self.new.take_faults ≡ self.old.take_faults }
+    {
+        let answer = self.store(name, bytes);
+        self.log = self.log.then(&Call::Put {
+            name,
+            bytes,
+            answer: &answer,
+        });
+        answer
     }
 }

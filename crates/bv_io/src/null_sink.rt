@@ -1,14 +1,33 @@
-ghost use Rattle.std.specs.Prelude.{None};
+//! A sink for what nobody is to read.
+ghost use Rattle.std.specs.Prelude.{◌≡◌, [], None};
 
+use crate::log::{Call, Log};
 use crate::sink::{Sink, SinkFault};
+use std::marker::Model;
 
 /// A sink that drops what it is given, tells nothing of it, and never fails.
-#[derive(Clone, Copy, Debug, Default)]
-pub struct NullSink;
+#[derive(Drop)]
+pub struct NullSink {
+    log: Log,
+}
+
+// Its log.
+impl Model for NullSink {
+    ghost use Rattle.std.specs.Prelude.{List};
+    ghost use Rattle.bv_io.specs.Log.{Event, log_code};
+
+    ghost Value = { List Event };
+
+    ghost coded = { log_code };
+
+    ghost view = { λ s. s.log.events };
+}
 
 impl NullSink {
-    pub fn new() -> NullSink {
-        NullSink
+    pub fn new() -> NullSink
+        ensures { result ≡ [] }
+    {
+        NullSink { log: Log::new() }
     }
 }
 
@@ -17,7 +36,14 @@ impl Sink for NullSink {
 
     ghost faults = { λ _. 0 };
 
-    fn write(&mut self, _bytes: &[u8]) -> Result<(), SinkFault> {
-        Ok(())
+    ghost log = { λ s. s };
+
+    fn write(&mut self, bytes: &[u8]) -> Result<(), SinkFault> {
+        let answer = Ok(());
+        self.log = self.log.then(&Call::Write {
+            bytes,
+            answer: &answer,
+        });
+        answer
     }
 }

@@ -1,4 +1,6 @@
-ghost use Rattle.std.specs.Prelude.{◌≡◌, ◌≢◌, ℕ, ◌≤◌, List, Option, Some, None, IfOk, OnOk, IsErrOf, vec_len};
+//! What every shelf promises: the trait, and its errors.
+ghost use Rattle.std.specs.Prelude.{◌≡◌, ◌≢◌, ℕ, ◌≤◌, List, ◌∷◌, Option, Some, None, IfOk, OnOk, IsErrOf, vec_len};
+ghost use Rattle.bv_io.specs.Log.{Event, take_event, put_event};
 ghost use Rattle.bv_io.specs.Shelf.{Rose, Tells, TellsMore};
 
 use std::alloc::Global;
@@ -37,8 +39,12 @@ pub trait Shelf {
     /// How often `put` failed, up to the greatest `u64`.
     ghost put_faults: { Self → ℕ };
 
+    /// All calls of `take` and `put` with what they were handed and answered, the newest first.
+    ghost log: { Self → List Event };
+
     /// The content of a name, of at most `max` bytes.
     fn take(&mut self, alloc: Global, name: &str, max: u32) -> Result<Vec<u8>, TakeError>
+        ensures logged { log self.new ≡ take_event name.now result ∷ log self.old }
         ensures found { IfOk result (λ bytes. Tells (content self.old name.now) (Some bytes.items)) }
         ensures fits { IfOk result (λ bytes. vec_len bytes ≤ max) }
         ensures missing { IsErrOf result TakeError.Missing → content self.old name.now ≡ Some None }
@@ -54,6 +60,7 @@ pub trait Shelf {
 
     /// Makes the bytes the content of a name.
     fn put(&mut self, name: &str, bytes: &[u8]) -> Result<(), PutError>
+        ensures logged { log self.new ≡ put_event name.now bytes.now result ∷ log self.old }
         ensures stored { OnOk result (Tells (content self.new name.now) (Some bytes.now)) }
         ensures failed { IsErrOf result PutError.Failed → Rose (put_faults self.old) (put_faults self.new) }
         ensures no_memory { IsErrOf result PutError.NoMemory → (n : List ℕ) → content self.new n ≡ content self.old n }

@@ -3,7 +3,6 @@ ghost use Rattle.std.specs.Prelude.{◌≡◌, ℕ, ◌+◌, List, []};
 ghost use Rattle.bv_run.specs.Outcome.{Outcome, RunsAgree};
 ghost use Rattle.bv_run.specs.Runs.{Turn, Going, Ended, run, with_front};
 
-
 /// A greater bound keeps how a run ended, and more steps go on where fewer left off.
 pub fn bounds_add_up<S, E>()
     ensures goes_on { (step : S → Turn S E) (first more : ℕ) (state middle : S) (out : List ℕ) → run step first state [] ≡ Going middle out
