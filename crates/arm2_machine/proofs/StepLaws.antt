@@ -17,10 +17,11 @@ use Rattle.arm2_cpu.specs.Step.{cpu_step}
 use Rattle.arm2_cpu.proofs.RegisterLaws.{holds-always}
 use Rattle.arm2_cpu.proofs.StepBasics.{Fetches}
 use Rattle.arm2_cpu.proofs.StepLaws.{step-mov_immediate, step-swi}
-use Rattle.arm2_machine.specs.declared.calls.TheConstants.{SWI_WRITE, SWI_END}
+use Rattle.arm2_machine.specs.declared.swi.TheConstants.{SWI_WRITE, SWI_END}
 use Rattle.bv_base.specs.MemoryMap.{pad, return_entry}
-use Rattle.arm2_machine.specs.Machine.{Machine, board_space, fetched}
-use Rattle.arm2_machine.specs.Step.{entered, with_low, called, instructed, board_step}
+use Rattle.arm2_machine.specs.Machine.{Machine, board_space, fetched, entered, with_low}
+use Rattle.arm2_machine.specs.Swi.{called}
+use Rattle.arm2_machine.specs.Step.{instructed, board_step}
 
 -- supervisor mode makes the processor's instruction
 supervised : (m : Machine) (s : Stepped) → m.regs.svc ≡ true → cpu_step board_space m.regs m.ram ≡ s → board_step m ≡ instructed m s
