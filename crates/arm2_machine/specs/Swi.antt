@@ -2,9 +2,28 @@
 use Rattle.std.specs.Prelude.{ℕ, ◌+◌, ◌-◌, ◌%◌, ◌^◌, ◌==◌, ◌&&◌, nat_le, nat_lt, not, Bool, if◌then◌else◌, List, [], ◌∷◌, slice_index, Option, Some, None}
 use Rattle.bv_run.specs.declared.report.Report.{Report}
 use Rattle.bv_run.specs.Runs.{Turn, Goes, Ends, End, Over}
-use Rattle.arm2_machine.specs.declared.swi.TheConstants.{SWI_WRITE, SWI_NEW_LINE, SWI_READ, SWI_END, SWI_CHARACTER}
 use Rattle.arm2_machine.specs.Machine.{Machine, with_low, refused}
 use Rattle.arm2_machine.specs.Reports.{report_of}
+
+-- writes the low byte of R0
+abbrev pub swi_write : ℕ
+swi_write = 0x00
+
+-- writes a new line
+abbrev pub swi_new_line : ℕ
+swi_new_line = 0x03
+
+-- takes a byte of the input into R0
+abbrev pub swi_read : ℕ
+swi_read = 0x04
+
+-- ends the run with the report in R0 to R3
+abbrev pub swi_end : ℕ
+swi_end = 0x11
+
+-- the first of the 256 that write the low byte of their number
+abbrev pub swi_character : ℕ
+swi_character = 0x100
 
 -- the next byte of the input comes into R0, or all ones where there is none
 abbrev pub with_input : Machine → List ℕ → Machine
@@ -18,7 +37,7 @@ reported m at (Some report) = Ends m [] (Over report)
 
 -- the numbers of the calls that write their low byte
 abbrev pub is_character : ℕ → Bool
-is_character number = nat_le SWI_CHARACTER number && nat_lt number (SWI_CHARACTER + 256)
+is_character number = nat_le swi_character number && nat_lt number (swi_character + 256)
 
 -- a call that user mode alone has
 abbrev pub called_by_user : Machine → ℕ → ℕ → Turn Machine End
@@ -27,9 +46,9 @@ called_by_user m at number = if is_character number then Goes m ((number % 256) 
 -- What a call does, by its number and the mode; the PC is behind its instruction, which stands at the address.
 abbrev pub called : Machine → ℕ → ℕ → Turn Machine End
 called m at number =
-    if number == SWI_WRITE then Goes m ((slice_index m.regs.low 0 % 256) ∷ [])
-    else if number == SWI_NEW_LINE then Goes m (10 ∷ 13 ∷ [])
+    if number == swi_write then Goes m ((slice_index m.regs.low 0 % 256) ∷ [])
+    else if number == swi_new_line then Goes m (10 ∷ 13 ∷ [])
     else if not m.regs.svc then called_by_user m at number
-    else if number == SWI_READ then Goes (with_input m m.input) []
-    else if number == SWI_END then reported m at (report_of m.regs.low)
+    else if number == swi_read then Goes (with_input m m.input) []
+    else if number == swi_end then reported m at (report_of m.regs.low)
     else refused m at
