@@ -1,5 +1,5 @@
 -- A new line, which is written in two writes of a byte.
-use Rattle.std.proofs.Common.{◌≡◌, ℕ, List, [], ◌∷◌, ◌++◌, Option, refl, sym}
+use Rattle.std.proofs.Common.{◌≡◌, ℕ, List, [], ◌∷◌, Option, refl, sym}
 use Rattle.bv_io.specs.Sink.{with_bytes, WritesPart}
 use Rattle.bv_io.proofs.Loops.{with_bytes-nil, with_bytes-append, part_of_piece}
 

@@ -14,7 +14,7 @@ use Rattle.arm2_cpu.specs.Window.{window}
 use Rattle.arm2_cpu.specs.WindowLaws.{window-lawful}
 use Rattle.bv_base.specs.MemoryMap.{ram_end, image_start, trap_entry}
 use Rattle.arm2_machine.specs.Reports.{trap_number}
-use Rattle.arm2_machine.specs.Words.{word_bytes}
+use Rattle.bv_base.specs.Words.{word_bytes}
 
 -- the RAM, of which user mode may use the arena alone
 abbrev pub board_space : Space

@@ -1,4 +1,4 @@
-use Rattle.std.proofs.Common.{Ok, Err, OnErr, [], ◌∷◌, ap, sym, subst}
+use Rattle.std.proofs.Common.{Ok, Err, OnErr, sym, subst}
 use Rattle.bv_io.specs.Sink.{WritesPart}
 use Rattle.arm2_machine.specs.Step.{bytes_of}
 use Rattle.arm2_machine.proofs.Outputs.{second_of_two}

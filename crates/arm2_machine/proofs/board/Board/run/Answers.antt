@@ -1,4 +1,4 @@
-use Rattle.std.proofs.Common.{◌≤◌, refl, sym, ap, subst, ◌∙◌, ◌-◌, ◌+◌, [], le_trans, le_refl, arith}
+use Rattle.std.proofs.Common.{refl, sym, ap, subst, ◌∙◌, ◌-◌, ◌+◌, [], le_trans, le_refl, arith}
 use Rattle.bv_run.specs.Runs.{Goes, Ended, Over, Broken, run, output_so_far}
 use Rattle.bv_io.specs.Sink.{WritesPart}
 use Rattle.bv_io.proofs.Loops.{so_far_starts, so_far_goes, so_far_stops, so_far_ends, so_far_faults}
