@@ -1,10 +1,9 @@
 -- What an image file is read as.
-use Rattle.std.proofs.Common.{◌≡◌, ℕ, zero, suc, ◌+◌, ◌-◌, ◌*◌, ◌/◌, ◌%◌, ◌^◌, ◌<◌, ◌≤◌, List, [], ◌∷◌, ◌++◌, length, take, drop, flat_map, slice_index, slice_get, refl, sym, ap, subst, ◌∙◌, arith, append_assoc, length-drop, get_or-drop, take-add, drop-drop, take_all}
+use Rattle.std.proofs.Common.{◌≡◌, ℕ, zero, suc, ◌+◌, ◌-◌, ◌*◌, ◌/◌, ◌%◌, ◌<◌, ◌≤◌, List, [], ◌∷◌, ◌++◌, length, take, drop, flat_map, slice_index, slice_get, refl, sym, ap, subst, ◌∙◌, arith, length-drop, get_or-drop, take-add, drop-drop, take_all}
 use Rattle.byteorder.specs.Endian.{little_number}
-use Rattle.arm2_machine.specs.declared.image.TheConstants.{MAGIC}
-use Rattle.arm2_machine.specs.Words.{word_bytes, AreWords}
-use Rattle.arm2_machine.specs.Image.{ImageOf, MagicEnds, word_count, IsTooLong, NotImage, Unlike, CutOff, OtherEnd, HasOneImage}
-use Rattle.arm2_machine.proofs.Memory.{word_from_bytes, length-flat_map-word_bytes}
+use Rattle.bv_base.specs.Words.{word_bytes, word_at, AreWords}
+use Rattle.bv_base.proofs.Words.{word_from_bytes, length-flat_map-word_bytes, flat_map-more, same_words}
+use Rattle.arm2_machine.specs.Image.{magic, ImageOf, MagicEnds, word_count, IsTooLong, NotImage, Unlike, CutOff, OtherEnd, HasOneImage}
 
 -- the first four bytes are those of the word that they make
 first_word : (xs : List ℕ) → 4 ≤ length xs → ((k : ℕ) → slice_index xs k < 256) → take 4 xs ≡ word_bytes (little_number 4 xs)
@@ -23,22 +22,12 @@ first_word (a ∷ b ∷ c ∷ d ∷ xs) long small = word_of_four a b c d (small
         let fourth : d ≡ w / 16777216 % 256 = omega arith in
         (λ i. first i ∷ second i ∷ third i ∷ fourth i ∷ [])
 
--- equal words have equal bytes
-same_words : (a b : List ℕ) → AreWords a → AreWords b → flat_map word_bytes a ≡ flat_map word_bytes b → a ≡ b
-same_words [] [] a_small b_small same = refl
-same_words [] (w ∷ ws) a_small b_small same = absurd (omega (arith, ap length same, length-flat_map-word_bytes (w ∷ ws)))
-same_words (w ∷ ws) [] a_small b_small same = absurd (omega (arith, ap length same, length-flat_map-word_bytes (w ∷ ws)))
-same_words (w ∷ ws) (v ∷ vs) a_small b_small same =
-    let at : (k : ℕ) → slice_index (flat_map word_bytes (w ∷ ws)) k ≡ slice_index (flat_map word_bytes (v ∷ vs)) k = λ k. ap (λ l. slice_index l k) same in
-    let number : w ≡ v = sym (word_from_bytes w a_small.0) ∙ (λ i. at 0 i + 256 * at 1 i + 65536 * at 2 i + 16777216 * at 3 i) ∙ word_from_bytes v b_small.0 in
-    let others = same_words ws vs a_small.1 b_small.1 (ap (drop 4) same) in
-    (λ i. number i ∷ others i)
-
 -- an image begins with the magic
 image_magic : (bytes words : List ℕ) → ImageOf bytes words → MagicEnds bytes 4
 image_magic bytes words image = record { within = omega arith; same = ap (take 4) image.spelled; differs = λ below. absurd (omega (arith, below)) }
 
 image_count : (bytes words : List ℕ) → ImageOf bytes words → word_count bytes ≡ length words
+unfolding word_at
 image_count bytes words image = ap word_count image.spelled ∙ word_from_bytes (length words) (omega (arith, image.short))
 
 image_length : (bytes words : List ℕ) → ImageOf bytes words → length bytes ≡ 8 + 4 * length words
@@ -53,7 +42,7 @@ slice_get-take (x ∷ xs) (suc n) (suc at) below = slice_get-take xs n at (omega
 
 -- where the bytes agree with the magic up to 4, they differ from it nowhere before
 magic_ends_once : (bytes : List ℕ) (at : ℕ) → MagicEnds bytes 4 → MagicEnds bytes at → at < 4 → ⊥
-magic_ends_once bytes at whole ends below = ends.differs below (sym (slice_get-take bytes 4 at below) ∙ ap (λ l. slice_get l at) whole.same ∙ slice_get-take MAGIC 4 at below)
+magic_ends_once bytes at whole ends below = ends.differs below (sym (slice_get-take bytes 4 at below) ∙ ap (λ l. slice_get l at) whole.same ∙ slice_get-take magic 4 at below)
 
 -- an image is refused nowhere, and is an image of no other words
 pub one_image : (bytes words : List ℕ) → AreWords words → ImageOf bytes words → HasOneImage bytes words
@@ -67,14 +56,6 @@ one_image bytes words small image = record {
     not_refused at (Unlike ends below) = magic_ends_once bytes at (image_magic bytes words image) ends below
     not_refused at (CutOff magic short is) = omega (arith, short, image_length bytes words image)
     not_refused at (OtherEnd magic whole fits other is) = other (image_length bytes words image ∙ ap (λ n. 8 + 4 * n) (sym (image_count bytes words image)))
-
-flat_map-more : (words : List ℕ) (w : ℕ) → flat_map word_bytes (words ++ w ∷ []) ≡ flat_map word_bytes words ++ word_bytes w
-flat_map-more [] w = refl
-flat_map-more (v ∷ vs) w = ap (λ l. word_bytes v ++ l) (flat_map-more vs w) ∙ sym (append_assoc (word_bytes v) _ (word_bytes w))
-
-pub one_word_more : (words : List ℕ) (w : ℕ) → w < 2 ^ 32 → AreWords words → AreWords (words ++ w ∷ [])
-one_word_more [] w small are = (small, tt)
-one_word_more (v ∷ vs) w small are = (are.0, one_word_more vs w small are.1)
 
 -- one more word was read
 pub reads_word : (bytes words : List ℕ) (index w : ℕ) → w ≡ little_number 4 (drop (8 + 4 * index) bytes) → 8 + 4 * index + 4 ≤ length bytes → ((k : ℕ) → slice_index bytes k < 256) → take (4 * index) (drop 8 bytes) ≡ flat_map word_bytes words → take (4 * (index + 1)) (drop 8 bytes) ≡ flat_map word_bytes (words ++ w ∷ [])
@@ -91,10 +72,6 @@ reads_word bytes words index w is within small so_far =
 -- what stands behind a place, as a slice to the end gives it
 pub slice_from : (bytes : List ℕ) (n : ℕ) → take (length bytes - n) (drop n bytes) ≡ drop n bytes
 slice_from bytes n = take_all (length bytes - n) (drop n bytes) (omega (arith, length-drop n bytes))
-
-pub words_of : (xs : List ℕ) → ((k : ℕ) → slice_index xs k < 2 ^ 32) → AreWords xs
-words_of [] small = tt
-words_of (x ∷ xs) small = (small 0, words_of xs (λ k. small (suc k)))
 
 -- bytes that begin an image of too many words are refused for no place
 pub long≢no_image : (bytes : List ℕ) (at : ℕ) → IsTooLong bytes → NotImage bytes at → ⊥

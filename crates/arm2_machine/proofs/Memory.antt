@@ -5,14 +5,11 @@ use Rattle.bv_base.specs.Limits.{image_words}
 use Rattle.bv_base.specs.MemoryMap.{ram_end, arena_start, arena_end, arena_bytes, image_start}
 use Rattle.bv_base.specs.Bytes.{zeros}
 use Rattle.bv_base.proofs.Zeros.{length-zeros, zeros-add}
-use Rattle.bv_ram.specs.Words.{put_at, word_at as bytes_word}
+use Rattle.bv_base.specs.Words.{put_at, word_at as bytes_word}
+use Rattle.bv_base.proofs.Words.{word_from_bytes, length-flat_map-word_bytes}
 use Rattle.arm2_cpu.specs.Memory.{byte_at, word_at, with_bytes, read_word}
-use Rattle.arm2_machine.specs.Words.{word_bytes, AreWords}
+use Rattle.bv_base.specs.Words.{word_bytes, AreWords}
 use Rattle.arm2_machine.specs.Machine.{board_space, fetched, loaded_ram, arena_of}
-
-pub length-flat_map-word_bytes : (words : List ℕ) → length (flat_map word_bytes words) ≡ 4 * length words
-length-flat_map-word_bytes [] = refl
-length-flat_map-word_bytes (w ∷ ws) = omega (arith, length-append (word_bytes w) (flat_map word_bytes ws), length-flat_map-word_bytes ws)
 
 lengths : (start more rest : ℕ) (words : List ℕ) → length words ≤ more → rest ≡ 4 * more - 4 * length words → length (zeros start ++ (flat_map word_bytes words ++ zeros rest)) ≡ start + 4 * more
 lengths start more rest words short is =
@@ -43,6 +40,7 @@ drop_zeros n m = ap (drop n) (zeros-add n m) ∙ drop_front (zeros n) (zeros m) 
 
 -- bytes put among zeros
 zeros_with : (before size all : ℕ) (bytes : List ℕ) → length bytes ≡ size → before + size ≤ all → put_at (zeros all) before bytes ≡ zeros before ++ (bytes ++ zeros (all - before - size))
+unfolding put_at
 zeros_with before size all bytes is fits =
     let first : all ≡ before + (all - before) = omega (arith, fits) in
     let second : all ≡ before + size + (all - before - size) = omega (arith, fits) in
@@ -75,10 +73,6 @@ abbrev pub HasAt : List ℕ → ℕ → List ℕ → Type 0
 HasAt ram a [] = Unit {0}
 HasAt ram a (w ∷ ws) = (fetched ram a ≡ Some w) × HasAt ram (a + 4) ws
 
--- the number of a word's four bytes
-pub word_from_bytes : (w : ℕ) → w < 2 ^ 32 → w % 256 + 256 * (w / 256 % 256) + 65536 * (w / 65536 % 256) + 16777216 * (w / 16777216 % 256) ≡ w
-word_from_bytes w small = omega arith
-
 -- what stands behind so many bytes
 slice_index-append : (front back : List ℕ) (a k : ℕ) → length front ≡ a → slice_index (front ++ back) (a + k) ≡ slice_index back k
 slice_index-append front back a k is = grind (arith, common_steps)
@@ -101,11 +95,12 @@ word_here ram a = λ i. byte_here ram a i + byte_here ram (a + 1) i * 256 + byte
 
 -- a word of the processor's memory is that of its four bytes
 pub same_word : (ram : List ℕ) (a : ℕ) → word_at board_space ram a ≡ bytes_word ram a
-same_word ram a = word_here ram a ∙ omega arith
+unfolding bytes_word
+same_word ram a = word_here ram a
 
 -- bytes that are put in the RAM
 pub same_put : (ram : List ℕ) (a : ℕ) (new : List ℕ) → with_bytes board_space ram a new ≡ put_at ram a new
-unfolding with_bytes
+unfolding with_bytes put_at
 same_put ram a new =
     let e : a - 0 ≡ a = omega arith in
     (λ i. take (e i) ram ++ new ++ drop (e i + length new) ram)

@@ -1,16 +1,18 @@
--- Bytes that are written one at a time.
-use Rattle.std.proofs.Common.{◌≡◌, ℕ, ◌+◌, ◌<◌, List, [], ◌∷◌, ◌++◌, length, take, drop, slice_index, Option, sym, ap, ◌∙◌, take-append-drop}
-use Rattle.std.proofs.lemmas.List.{take_more}
+-- A new line, which is written in two writes of a byte.
+use Rattle.std.proofs.Common.{◌≡◌, ℕ, List, [], ◌∷◌, Option, refl, sym}
 use Rattle.bv_io.specs.Sink.{with_bytes, WritesPart}
-use Rattle.bv_io.proofs.Loops.{part_of_piece}
+use Rattle.bv_io.proofs.Loops.{with_bytes-nil, with_bytes-append, part_of_piece}
 
--- the first bytes and the next one are the first bytes
-first_bytes : (bytes : List ℕ) (place byte : ℕ) → place < length bytes → byte ≡ slice_index bytes place → take place bytes ++ byte ∷ [] ≡ take (place + 1) bytes
-first_bytes bytes place byte inside is = ap (λ b. take place bytes ++ b ∷ []) is ∙ sym (take_more bytes place 0 inside)
+-- where the first byte fails, a first part was written: that byte may be in it
+pub first_of_two : (old after : Option (List ℕ)) (first second : ℕ) → WritesPart old (first ∷ []) after → WritesPart old (first ∷ second ∷ []) after
+first_of_two old after first second part =
+    part_of_piece old old after [] (first ∷ []) _ (sym (with_bytes-nil old)) (second ∷ [], refl) part
 
--- where the next byte fails, a first part was written: that byte may be in it
-pub part_of_bytes : (old written after : Option (List ℕ)) (bytes : List ℕ) (place byte : ℕ) → place < length bytes → byte ≡ slice_index bytes place → written ≡ with_bytes old (take place bytes) → WritesPart written (byte ∷ []) after → WritesPart old bytes after
-part_of_bytes old written after bytes place byte inside is so part =
-    let rest = drop (place + 1) bytes in
-    let split : bytes ≡ (take place bytes ++ byte ∷ []) ++ rest = sym (take-append-drop (place + 1) bytes) ∙ ap (λ l. l ++ rest) (sym (first_bytes bytes place byte inside is)) in
-    part_of_piece old written after (take place bytes) (byte ∷ []) bytes so (rest, split) part
+-- where the second byte fails, the first was written
+pub second_of_two : (old written after : Option (List ℕ)) (first second : ℕ) → written ≡ with_bytes old (first ∷ []) → WritesPart written (second ∷ []) after → WritesPart old (first ∷ second ∷ []) after
+second_of_two old written after first second so part =
+    part_of_piece old written after (first ∷ []) (second ∷ []) _ so ([], refl) part
+
+-- both bytes were written, one after the other
+pub both_of_two : (old : Option (List ℕ)) (first second : ℕ) → with_bytes (with_bytes old (first ∷ [])) (second ∷ []) ≡ with_bytes old (first ∷ second ∷ [])
+both_of_two old first second = with_bytes-append old (first ∷ []) (second ∷ [])

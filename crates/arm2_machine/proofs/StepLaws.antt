@@ -17,10 +17,10 @@ use Rattle.arm2_cpu.specs.Step.{cpu_step}
 use Rattle.arm2_cpu.proofs.RegisterLaws.{holds-always}
 use Rattle.arm2_cpu.proofs.StepBasics.{Fetches}
 use Rattle.arm2_cpu.proofs.StepLaws.{step-mov_immediate, step-swi}
-use Rattle.arm2_machine.specs.declared.calls.TheConstants.{SWI_WRITE, SWI_END}
 use Rattle.bv_base.specs.MemoryMap.{pad, return_entry}
-use Rattle.arm2_machine.specs.Machine.{Machine, board_space, fetched}
-use Rattle.arm2_machine.specs.Step.{entered, with_low, called, instructed, board_step}
+use Rattle.arm2_machine.specs.Machine.{Machine, board_space, fetched, entered, with_low}
+use Rattle.arm2_machine.specs.Swi.{swi_write, swi_end, called}
+use Rattle.arm2_machine.specs.Step.{instructed, board_step}
 
 -- supervisor mode makes the processor's instruction
 supervised : (m : Machine) (s : Stepped) → m.regs.svc ≡ true → cpu_step board_space m.regs m.ram ≡ s → board_step m ≡ instructed m s
@@ -57,11 +57,11 @@ step_call m number small svc at = supervised m _ svc (step-swi board_space m.reg
 
 -- SWI &00 writes the low byte of R0
 pub step_write : (m : Machine) → m.regs.svc ≡ true → fetched m.ram m.regs.pc ≡ Some 0xef000000 → board_step m ≡ Goes (record m { regs = at_next m.regs }) ((slice_index m.regs.low 0 % 256) ∷ [])
-step_write m svc at = step_call m SWI_WRITE (omega arith) svc at
+step_write m svc at = step_call m swi_write (omega arith) svc at
 
-called_end : (m : Machine) (at : ℕ) → m.regs.svc ≡ true → slice_index m.regs.low 0 ≡ 0 → called m at SWI_END ≡ Ends m [] (Over Done)
+called_end : (m : Machine) (at : ℕ) → m.regs.svc ≡ true → slice_index m.regs.low 0 ≡ 0 → called m at swi_end ≡ Ends m [] (Over Done)
 called_end m at svc zero = rw svc (rw (eq-eqb (slice_index m.regs.low 0) 0 zero) refl)
 
 -- SWI &11 with R0 = 0 ends the run as done
 pub step_done : (m : Machine) → slice_index m.regs.low 0 ≡ 0 → m.regs.svc ≡ true → fetched m.ram m.regs.pc ≡ Some 0xef000011 → board_step m ≡ Ends (record m { regs = at_next m.regs }) [] (Over Done)
-step_done m zero svc at = step_call m SWI_END (omega arith) svc at ∙ called_end (record m { regs = at_next m.regs }) m.regs.pc svc zero
+step_done m zero svc at = step_call m swi_end (omega arith) svc at ∙ called_end (record m { regs = at_next m.regs }) m.regs.pc svc zero

@@ -1,14 +1,10 @@
--- What the board's calls say.
-use Rattle.std.specs.Prelude.{◌≡◌, ℕ, ◌+◌, ◌-◌, ◌^◌, ◌<◌, min, Option, Bool, true, false, List, [], ◌∷◌, refl}
+-- The board: a machine with the count of its steps, and what a run of it says.
+use Rattle.std.specs.Prelude.{◌≡◌, ℕ, ◌+◌, ◌-◌, ◌^◌, ◌<◌, min, Option, Bool, true, false, List, [], refl}
 use Rattle.std.specs.Coded.{Coded, code_by, coded×, coded_ℕ, coded_bool}
 use Rattle.bv_run.specs.declared.report.RunEnd.{RunEnd}
 use Rattle.bv_run.specs.declared.report.RunEnd.TheVariants as ends
-use Rattle.bv_run.specs.Runs.{Turn, Goes, Ends, End, Over, Broken, Progress, Going, Ended, run}
+use Rattle.bv_run.specs.Runs.{Goes, End, Over, Broken, Progress, Going, Ended, run}
 use Rattle.bv_io.specs.Sink.{with_bytes, WritesPart}
-use Rattle.arm2_machine.specs.declared.step.Output.{Output}
-use Rattle.arm2_machine.specs.declared.step.Output.TheVariants as outputs
-use Rattle.arm2_machine.specs.declared.step.StepOutcome.{StepOutcome}
-use Rattle.arm2_machine.specs.declared.step.StepOutcome.TheVariants as outcomes
 use Rattle.arm2_machine.specs.Machine.{Machine, machine_code}
 use Rattle.arm2_machine.specs.Step.{board_step}
 
@@ -25,18 +21,6 @@ board_code =
     (λ b. (b.machine, (b.steps, b.closed)))
     (λ p. record { machine = p.0; steps = p.1.0; closed = p.1.1 })
     (λ _. refl)
-
--- the bytes of an output
-abbrev pub bytes_of : Output → List ℕ
-bytes_of outputs.Nothing = []
-bytes_of (outputs.Byte byte) = byte ∷ []
-bytes_of outputs.NewLine = 10 ∷ 13 ∷ []
-
--- a step by what it answers and the state that it leaves
-abbrev pub turn_of : StepOutcome → Machine → Turn Machine End
-turn_of (outcomes.Continued output) m = Goes m (bytes_of output)
-turn_of (outcomes.Over report) m = Ends m [] (Over report)
-turn_of (outcomes.Broken kind address) m = Ends m [] (Broken kind address)
 
 -- a run by its answer, the state that it leaves, and what it wrote
 abbrev pub progress_of : RunEnd → Machine → List ℕ → Progress Machine End

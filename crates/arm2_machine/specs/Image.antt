@@ -1,14 +1,17 @@
 -- Image files. This project's own.
-use Rattle.std.specs.Prelude.{◌≡◌, ◌≢◌, ℕ, ◌+◌, ◌*◌, ◌<◌, ◌≤◌, min, List, ◌++◌, length, take, flat_map, slice_get}
+use Rattle.std.specs.Prelude.{◌≡◌, ◌≢◌, ℕ, ◌+◌, ◌*◌, ◌<◌, ◌≤◌, min, List, [], ◌∷◌, ◌++◌, length, take, flat_map, slice_get}
 use Rattle.arm2_machine.specs.declared.image.ImageError.{ImageError}
 use Rattle.arm2_machine.specs.declared.image.ImageError.TheVariants as errors
-use Rattle.arm2_machine.specs.declared.image.TheConstants.{MAGIC}
 use Rattle.bv_base.specs.Limits.{image_words}
-use Rattle.arm2_machine.specs.Words.{word_bytes, word_at, AreWords}
+use Rattle.bv_base.specs.Words.{word_bytes, word_at, AreWords}
 
--- The bytes BVA2, the number of words, and the words, each with its lowest byte first.
+-- the first bytes of an image file: BVA2
+abbrev pub magic : List ℕ
+magic = 66 ∷ 86 ∷ 65 ∷ 50 ∷ []
+
+-- Those bytes, the number of words, and the words, each with its lowest byte first.
 pub record ImageOf (bytes words : List ℕ) : Type 0 where
-  pub spelled : bytes ≡ MAGIC ++ (word_bytes (length words) ++ flat_map word_bytes words)
+  pub spelled : bytes ≡ magic ++ (word_bytes (length words) ++ flat_map word_bytes words)
   pub short : length words ≤ image_words
 
 -- the number of words that a file says it has
@@ -18,8 +21,8 @@ word_count bytes = word_at bytes 4
 -- The bytes begin as an image file does, up to this place, which is 4 or the first that differs.
 pub record MagicEnds (bytes : List ℕ) (at : ℕ) : Type 0 where
   pub within : at ≤ 4
-  pub same : take at bytes ≡ take at MAGIC
-  pub differs : at < 4 → slice_get bytes at ≢ slice_get MAGIC at
+  pub same : take at bytes ≡ take at magic
+  pub differs : at < 4 → slice_get bytes at ≢ slice_get magic at
 
 -- Why bytes are no image, at a place: one of the first four is wrong or missing there; or the number of words is cut
 -- off, at the bytes' end; or they end before or behind the words that they should have, at the smaller of the two ends.

@@ -1,6 +1,7 @@
-pub mod Words
-pub mod Machine
+pub mod Input
 pub mod Reports
+pub mod Machine
+pub mod Swi
 pub mod Step
 pub mod Board
 pub mod Image

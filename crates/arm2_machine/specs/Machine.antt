@@ -1,14 +1,20 @@
--- The board's state. This project's own, but for the registers, which are the ARM2's.
-use Rattle.std.specs.Prelude.{ℕ, ◌-◌, ◌*◌, Bool, true, false, List, ◌++◌, length, take, drop, flat_map, replicate, Option, refl}
+-- The board's machine: its state, its start, and what it does at a trap. This project's own, but for the registers, which
+-- are the ARM2's.
+use Rattle.std.specs.Prelude.{ℕ, ◌-◌, ◌*◌, Bool, true, false, if◌then◌else◌, List, [], ◌++◌, length, take, drop, flat_map, replicate, slice_set, Option, refl}
 use Rattle.std.specs.Coded.{Coded, code_by, coded×, coded_ℕ, coded_bool, coded_list}
 use Rattle.std.proofs.Common.{lit≤}
-use Rattle.bv_base.specs.MemoryMap.{ram_end, arena_start, arena_end, arena_bytes, image_start}
+use Rattle.bv_base.specs.MemoryMap.{arena_start, arena_end, arena_bytes}
+use Rattle.bv_run.specs.declared.report.Trap.{Trap}
+use Rattle.bv_run.specs.declared.report.Trap.TheVariants as traps
 use Rattle.bv_base.specs.Bytes.{zeros}
+use Rattle.bv_run.specs.Runs.{Turn, Goes, Ends, End, Broken}
 use Rattle.arm2_cpu.specs.declared.regs.Regs.{Regs}
 use Rattle.arm2_cpu.specs.Memory.{Space, IsLawful, read_word}
 use Rattle.arm2_cpu.specs.Window.{window}
 use Rattle.arm2_cpu.specs.WindowLaws.{window-lawful}
-use Rattle.arm2_machine.specs.Words.{word_bytes}
+use Rattle.bv_base.specs.MemoryMap.{ram_end, image_start, trap_entry}
+use Rattle.arm2_machine.specs.Reports.{trap_number}
+use Rattle.bv_base.specs.Words.{word_bytes}
 
 -- the RAM, of which user mode may use the arena alone
 abbrev pub board_space : Space
@@ -59,3 +65,22 @@ loaded words input = record { regs = first_regs; ram = loaded_ram words; input =
 -- the arena's bytes
 unfoldable pub arena_of : List ℕ → List ℕ
 arena_of ram = take arena_bytes (drop arena_start ram)
+
+-- the processor in supervisor mode, at an entry
+abbrev pub entered : Regs → ℕ → Regs
+entered r entry = record r { svc = true; pc = entry }
+
+-- a register from R0 to R12 takes a value
+abbrev pub with_low : Regs → ℕ → ℕ → Regs
+with_low r n value = record r { low = slice_set r.low n value }
+
+-- A trap: user mode goes to the supervisor, with the kind in R0 and the address in R1. The supervisor's own trap breaks the
+-- run.
+abbrev pub trapped : Machine → Trap → ℕ → Turn Machine End
+trapped m kind address =
+    if m.regs.svc then Ends m [] (Broken kind address)
+    else Goes (record m { regs = entered (with_low (with_low m.regs 0 (trap_number kind)) 1 address) trap_entry }) []
+
+-- a call that isn't there traps at its instruction
+abbrev pub refused : Machine → ℕ → Turn Machine End
+refused m at = trapped (record m { regs = record m.regs { pc = at } }) traps.Swi at

@@ -1,9 +1,9 @@
 ghost use Rattle.std.specs.Prelude.{◌≡◌, ◌≤◌, ◌<◌, ◌↔◌, IsTrue, length, slice_get, IfOk, IfErr};
-ghost use Rattle.arm2_machine.specs.Image.{ImageOf, HasOneImage, ExplainsImage, MagicEnds, IsWhole};
-ghost use Rattle.arm2_machine.specs.Words.{AreWords};
+ghost use Rattle.arm2_machine.specs.Image.{magic, ImageOf, HasOneImage, ExplainsImage, MagicEnds, IsWhole};
+ghost use Rattle.bv_base.specs.Words.{AreWords};
 
-use bv_base::{IMAGE_WORDS, NoMemory};
 use crate::words::{push_word, push_words};
+use bv_base::{IMAGE_WORDS, NoMemory};
 use byteorder::{ByteOrder, LittleEndian};
 use std::alloc::{AllocError, AllocFailed, Global};
 use thiserror::Error;
@@ -62,7 +62,7 @@ pub fn write_image(alloc: Global, words: &[u32]) -> Result<Vec<u8>, NoMemory>
 /// Whether the byte at a place below 4 is there and is that of an image file.
 fn is_magic_at(bytes: &[u8], at: usize) -> bool
     requires { at < 4 }
-    ensures { IsTrue result ↔ (slice_get bytes.now at ≡ slice_get MAGIC at) }
+    ensures { IsTrue result ↔ (slice_get bytes.now at ≡ slice_get magic at) }
 {
     at < bytes.len() && bytes[at] == MAGIC[at]
 }
@@ -81,6 +81,7 @@ fn magic_end(bytes: &[u8]) -> usize
     end
 }
 
+#[tactic(auto, unfolding(bv_base::specs::Words::word_at))]
 /// How many words the bytes of a whole image file have.
 fn check_image(bytes: &[u8]) -> Result<usize, ImageError>
     ensures ok { IfOk result (λ count. IsWhole bytes.now count) }
@@ -107,6 +108,7 @@ fn check_image(bytes: &[u8]) -> Result<usize, ImageError>
     Ok(count as usize)
 }
 
+#[tactic(auto, unfolding(bv_base::specs::Words::word_at))]
 /// The words of an image file.
 pub fn read_image(alloc: Global, bytes: &[u8]) -> Result<Vec<u32>, ImageError>
     ensures ok { IfOk result (λ words. ImageOf bytes.now words.items) }

@@ -2,15 +2,17 @@
 #![tactic(auto)]
 
 mod board;
-mod calls;
 mod image;
+mod input;
 mod laws;
-mod output;
+mod machine;
 mod ram;
+mod reports;
 mod step;
+mod swi;
 mod words;
 
 pub use board::Board;
-pub use calls::{SWI_CHARACTER, SWI_END, SWI_NEW_LINE, SWI_READ, SWI_WRITE};
 pub use image::{ImageError, read_image, write_image};
 pub use laws::calls_add_up;
+pub use swi::{SWI_CHARACTER, SWI_END, SWI_NEW_LINE, SWI_READ, SWI_WRITE};

@@ -1,9 +1,9 @@
 ghost use Rattle.std.specs.Prelude.{◌≡◌, ◌≤◌, length, IfOk};
 ghost use Rattle.arm2_machine.specs.Machine.{arena_of, board_space, loaded_ram};
 
-use bv_base::{ARENA_END, ARENA_START, IMAGE_START, IMAGE_WORDS, NoMemory, RAM_END};
 use crate::words::words_to_bytes;
 use arm2_cpu::Memory;
+use bv_base::{ARENA_END, ARENA_START, IMAGE_START, IMAGE_WORDS, NoMemory, RAM_END};
 use bv_ram::Ram;
 use std::alloc::Global;
 use std::marker::Model;

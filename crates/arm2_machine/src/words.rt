@@ -1,5 +1,5 @@
 ghost use Rattle.std.specs.Prelude.{◌≡◌, ◌≤◌, ◌++◌, length, flat_map, IfOk, OnOk};
-ghost use Rattle.arm2_machine.specs.Words.{word_bytes};
+ghost use Rattle.bv_base.specs.Words.{word_bytes};
 
 use bv_base::IMAGE_WORDS;
 use byteorder::{ByteOrder, LittleEndian};

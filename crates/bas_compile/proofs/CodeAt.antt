@@ -1,6 +1,6 @@
 -- Where the code of a program's lines stands.
 use Rattle.std.proofs.Common.{◌≡◌, ℕ, zero, suc, ◌+◌, ◌*◌, ◌≤◌, List, [], ◌∷◌, ◌++◌, length, flat_map, Some, None, unwrap_or, slice_get, refl, sym, ap, subst, ◌∙◌, arith, length-append, append_assoc}
-use Rattle.arm2_machine.specs.Words.{AreWords}
+use Rattle.bv_base.specs.Words.{AreWords}
 use Rattle.arm2_machine.proofs.Memory.{HasAt, has_front, has_back}
 use Rattle.bas_compile.specs.declared.item.Item.{Item}
 use Rattle.bas_compile.specs.declared.item.Item.TheVariants.{Vdu, End}

@@ -10,8 +10,8 @@ use Rattle.bv_base.specs.Limits.{image_words}
 use Rattle.bv_base.specs.MemoryMap.{image_start}
 use Rattle.arm2_cpu.specs.declared.regs.TheConstants.{PC_END}
 use Rattle.arm2_cpu.specs.Registers.{at_next}
-use Rattle.arm2_machine.specs.Machine.{Machine, fetched, loaded, loaded_ram, arena_of}
-use Rattle.arm2_machine.specs.Step.{with_low, board_step, board_run}
+use Rattle.arm2_machine.specs.Machine.{Machine, fetched, loaded, loaded_ram, arena_of, with_low}
+use Rattle.arm2_machine.specs.Step.{board_step, board_run}
 use Rattle.arm2_machine.proofs.Memory.{HasAt, loaded_has, arena_of-loaded_ram}
 use Rattle.arm2_machine.proofs.StepLaws.{step_move, step_write, step_done}
 use Rattle.bas_compile.specs.declared.code.TheConstants.{MOV_R0}

@@ -115,3 +115,20 @@ fn a_write_fails(rt: HostRuntime) -> Result<(), Fail> {
     assert!(rt; end.is_none() && written.as_slice() == b"\n".as_slice());
     Ok(())
 }
+
+/// MOV R0,#65, SWI &00 and a branch back to it: writes A for ever.
+const ENDLESS: [u32; 3] = [0xe3a0_0041, 0xef00_0000, 0xeaff_fffd];
+
+// What a run writes goes to the sink as it is written, and nothing is kept back.
+#[test]
+fn an_endless_run_fails_where_the_sink_is_full(rt: HostRuntime) -> Result<(), Fail> {
+    let alloc = rt.alloc();
+    let mut board = Board::load(alloc, &ENDLESS, Vec::new(alloc))?;
+    let mut out = MemSink::new(alloc, 10)?;
+    assert!(rt; !board.closed());
+    let end = board.run(u64::MAX, &mut out);
+    assert!(rt; end.is_err());
+    assert_eq!(rt; out.bytes(), b"AAAAAAAAAA".as_slice());
+    assert_eq!(rt; (board.closed(), board.steps()), (true, 22));
+    Ok(())
+}

@@ -439,6 +439,24 @@ const FOUR_LINES: &[u8] =
 
 /// Whether a file that is compiled and run ends with this status, this output and this line, where a write to the output
 /// is to fail.
+/// The image of MOV R0,#65, SWI &00 and a branch back to it, which writes A for ever.
+const ENDLESS_IMAGE: &[u8] = b"BVA2\x03\0\0\0\x41\0\xa0\xe3\0\0\0\xef\xfd\xff\xff\xea";
+
+// What a run writes goes to the output as it is written, and nothing is kept back.
+#[test]
+fn an_endless_image_fails_where_the_output_is_full(rt: HostRuntime) -> Result<(), Fail> {
+    let alloc = rt.alloc();
+    let mut shelf = shelf_with(alloc, ENDLESS_IMAGE)?;
+    let words = to_words(alloc, &["run", "f"])?;
+    let mut out = MemSink::new(alloc, 10)?;
+    let mut err = MemSink::new(alloc, 100)?;
+    let status = basv(alloc, words.as_slice(), &mut shelf, &mut out, &mut err);
+    assert_eq!(rt; status, Status::WriteFault);
+    assert_eq!(rt; out.bytes(), b"AAAAAAAAAA".as_slice());
+    assert_eq!(rt; err.bytes(), b"cannot write\n".as_slice());
+    Ok(())
+}
+
 fn runs_compiled(
     alloc: Global,
     file: &[u8],

@@ -10,13 +10,13 @@ use Rattle.bv_io.specs.Sink.{with_bytes, WritesPart}
 use Rattle.bv_run.proofs.Agreement.{output-outcome_of}
 use Rattle.arm2_machine.specs.declared.image.ImageError.{ImageError}
 use Rattle.arm2_machine.specs.declared.image.ImageError.TheVariants as image_errors
-use Rattle.arm2_machine.specs.Words.{AreWords}
+use Rattle.bv_base.specs.Words.{AreWords}
 use Rattle.arm2_machine.specs.Image.{ImageOf, IsTooLong, NotImage, ExplainsImage}
 use Rattle.arm2_machine.specs.Board.{progress_of}
 use Rattle.arm2_machine.specs.Machine.{loaded}
 use Rattle.arm2_machine.specs.Step.{board_step}
 use Rattle.arm2_machine.proofs.Images.{one_image, long≢no_image}
-use Rattle.arm2_machine.proofs.Memory.{length-flat_map-word_bytes}
+use Rattle.bv_base.proofs.Words.{length-flat_map-word_bytes}
 use Rattle.basv_top.specs.declared.ending.Ending.{Ending as Told}
 use Rattle.bas_compile.specs.declared.refusal.Refusal.{Refusal}
 use Rattle.bas_compile.specs.declared.refusal.Refusal.TheVariants as refusals

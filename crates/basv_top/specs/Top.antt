@@ -8,7 +8,7 @@ use Rattle.bv_io.specs.Sink.{with_bytes, WritesPart}
 use Rattle.token_file.specs.declared.line.Line.{Line}
 use Rattle.token_file.specs.Lines.{Lines}
 use Rattle.lister.specs.Listing.{listing}
-use Rattle.arm2_machine.specs.Words.{AreWords}
+use Rattle.bv_base.specs.Words.{AreWords}
 use Rattle.arm2_machine.specs.Image as images
 use Rattle.arm2_machine.specs.Image.{ImageOf, IsTooLong}
 use Rattle.arm2_machine.specs.Step.{board_run}

@@ -4,7 +4,7 @@ ghost use Rattle.bv_io.specs.Sink.{with_bytes};
 ghost use Rattle.token_file.specs.declared.line.Line.{Line as FileLine};
 ghost use Rattle.token_file.specs.Lines.{Lines};
 ghost use Rattle.arm2_machine.specs.Image.{ImageOf};
-ghost use Rattle.arm2_machine.specs.Words.{AreWords};
+ghost use Rattle.bv_base.specs.Words.{AreWords};
 ghost use Rattle.bas_compile.specs.declared.item.ProgramLine.{ProgramLine as Line};
 ghost use Rattle.bas_compile.specs.declared.refusal.Refusal.{Refusal as Reason};
 ghost use Rattle.basv_top.specs.Command.{Listing as IsList, Compile as IsCompile, Run as IsRun, command_of};

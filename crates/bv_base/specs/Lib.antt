@@ -1,3 +1,4 @@
 pub mod Limits
 pub mod MemoryMap
 pub mod Bytes
+pub mod Words

@@ -3,4 +3,3 @@ mod Shown
 mod Values
 mod Generic
 mod Bytes
-pub mod Puts

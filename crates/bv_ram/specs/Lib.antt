@@ -1,3 +1,2 @@
 pub mod Ownership
 pub mod Lends
-pub mod Words

@@ -1,6 +1,7 @@
+//! The memory itself. A further call on it goes here.
 ghost use Rattle.std.specs.Prelude.{◌≡◌, ◌+◌, ◌-◌, ◌%◌, ◌<◌, ◌≤◌, [], ◌∷◌, length, slice_index, slice_range, slice_set, IfOk};
-ghost use Rattle.bv_base.specs.Bytes.{zeros};
-ghost use Rattle.bv_ram.specs.Words.{word_bytes, word_at, put_at, repeated};
+ghost use Rattle.bv_base.specs.Bytes.{zeros, repeated};
+ghost use Rattle.bv_base.specs.Words.{word_bytes, word_at, put_at};
 
 use crate::block::{Block, Lease};
 use bv_base::NoMemory;
@@ -96,6 +97,7 @@ impl Ram {
         self.block.bytes_mut(self.len as usize)[at as usize] = v;
     }
 
+    #[tactic(auto, unfolding(bv_base::specs::Words::word_at))]
     /// The word at an address, whose lowest byte comes first.
     pub fn word(&self, at: u32) -> u32
         requires aligned { at % 4 ≡ 0 }
@@ -117,7 +119,7 @@ impl Ram {
         self.copy_in(at, &v.to_le_bytes());
     }
 
-    #[tactic(auto, unfolding(crate::specs::Words::repeated))]
+    #[tactic(auto, unfolding(bv_base::specs::Bytes::repeated, bv_base::specs::Words::put_at))]
     /// Sets each byte from `from` up to `to`.
     pub fn fill(&mut self, from: u32, to: u32, v: u8)
         requires ordered { from ≤ to }
@@ -128,6 +130,7 @@ impl Ram {
         self.block.bytes_mut(self.len as usize)[from as usize..to as usize].fill(v);
     }
 
+    #[tactic(auto, unfolding(bv_base::specs::Words::put_at))]
     /// Puts bytes from an address on.
     pub fn copy_in(&mut self, at: u32, bytes: &[u8])
         requires inside { at + length bytes.now ≤ length self.old }

@@ -1,7 +1,8 @@
 use Rattle.std.proofs.Common.{◌+◌, ◌*◌, length, length-append, flat_map, ap, sym, subst, ◌∙◌, arith}
 use Rattle.byteorder.specs.Endian.{little_number}
-use Rattle.arm2_machine.specs.Words.{word_bytes, AreWords}
-use Rattle.arm2_machine.proofs.Images.{reads_word, slice_from, one_word_more}
+use Rattle.bv_base.specs.Words.{word_bytes, AreWords}
+use Rattle.arm2_machine.proofs.Images.{reads_word, slice_from}
+use Rattle.bv_base.proofs.Words.{one_word_more}
 use Rattle.arm2_machine.proofs.image.read_image.Goals as goal
 
 pub loop-index-preserved : goal.loop-index-preserved

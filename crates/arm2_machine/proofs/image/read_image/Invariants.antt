@@ -1,5 +1,5 @@
 use Rattle.std.proofs.Common.{◌≡◌, ◌*◌, take, drop, flat_map, length}
-use Rattle.arm2_machine.specs.Words.{word_bytes, AreWords}
+use Rattle.bv_base.specs.Words.{word_bytes, AreWords}
 use Rattle.arm2_machine.proofs.image.read_image.Given as goal
 
 abbrev pub invariant-loop-index : goal.invariant-loop-index

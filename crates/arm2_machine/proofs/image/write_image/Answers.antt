@@ -1,6 +1,7 @@
 use Rattle.std.proofs.Common.{arith}
 use Rattle.std.proofs.lemmas.Grind.{common_steps}
-use Rattle.arm2_machine.proofs.Images.{one_image, words_of}
+use Rattle.bv_base.proofs.Words.{words_of}
+use Rattle.arm2_machine.proofs.Images.{one_image}
 use Rattle.arm2_machine.proofs.image.write_image.Goals as goal
 
 pub returns-clause-image : goal.returns-clause-image

@@ -1,5 +1,5 @@
 use Rattle.std.proofs.Common.{◌≡◌, ◌++◌, take, flat_map}
-use Rattle.arm2_machine.specs.Words.{word_bytes}
+use Rattle.bv_base.specs.Words.{word_bytes}
 use Rattle.arm2_machine.proofs.words.push_words.Given as goal
 
 abbrev pub invariant-loop-word : goal.invariant-loop-word

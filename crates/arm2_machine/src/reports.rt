@@ -1,22 +1,8 @@
+//! Traps and reports by their numbers, as registers hand them over.
 ghost use Rattle.std.specs.Prelude.{◌≡◌};
 ghost use Rattle.arm2_machine.specs.Reports.{trap_of, stray_of, report_of, trap_number};
 
 use bv_run::{Report, Trap};
-
-/// The software interrupt that writes the low byte of R0.
-pub const SWI_WRITE: u32 = 0x00;
-
-/// The software interrupt that writes a new line, the bytes 10 and 13.
-pub const SWI_NEW_LINE: u32 = 0x03;
-
-/// The software interrupt that takes a byte of the input into R0.
-pub const SWI_READ: u32 = 0x04;
-
-/// The software interrupt that ends the run with the report in R0 to R3.
-pub const SWI_END: u32 = 0x11;
-
-/// The first of the 256 software interrupts that write the low byte of their number.
-pub const SWI_CHARACTER: u32 = 0x100;
 
 /// The number of a trap's kind.
 pub fn trap_number(kind: Trap) -> u32
