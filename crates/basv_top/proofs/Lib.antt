@@ -1,4 +1,4 @@
-pub mod Causes
-pub mod Written
-pub mod Endings
-pub mod Runs
+mod Endings
+mod Written
+mod Taken
+mod RunOutputs

@@ -3,7 +3,7 @@ use Rattle.std.specs.Prelude.{ℕ, ◌+◌, ◌/◌, ◌%◌, ◌^◌, List, [],
 use Rattle.std.specs.Fmt.{signed_decimal}
 use Rattle.arm2_machine.specs.declared.image.ImageError.{ImageError}
 use Rattle.arm2_machine.specs.declared.image.ImageError.TheVariants as image_errors
-use Rattle.bv_base.specs.Limits.{image_words}
+use Rattle.bv_base.specs.Limits.{file_bytes, image_words}
 use Rattle.bv_num.specs.Digits.{digit_byte}
 use Rattle.bv_run.specs.declared.report.Report.{Report}
 use Rattle.bv_run.specs.declared.report.Report.TheVariants as reports
@@ -21,7 +21,7 @@ use Rattle.bas_compile.specs.declared.refusal.Refusal.{Refusal}
 use Rattle.bas_compile.specs.declared.refusal.Refusal.TheVariants as refusals
 use Rattle.bas_compile.specs.declared.refusal.Which.{Which}
 use Rattle.bas_compile.specs.declared.refusal.Which.TheVariants as limits
-use Rattle.basv_top.specs.declared.report.Message.{Message}
+use Rattle.basv_top.specs.declared.message.Message.{Message}
 use Rattle.basv_top.specs.declared.status.Status.{Status}
 use Rattle.basv_top.specs.declared.status.Status.TheVariants as statuses
 
@@ -181,12 +181,16 @@ abbrev pub ended_run : Result RunEnd Told → ℕ → Ending
 ended_run (Ok end) bound = Ran end bound
 ended_run (Err ending) bound = told ending
 
--- how an image of too many words is refused: the count stops one past the limit
-abbrev pub too_many_words : Refusal
-too_many_words = refusals.Limit limits.Image (image_words + 1)
+-- how a program's file of too many bytes is refused: the count stops one past the limit
+abbrev pub long_file : Refusal
+long_file = refusals.Limit limits.File (file_bytes + 1)
+
+-- how an image of too many words is refused
+abbrev pub long_image : Refusal
+long_image = refusals.Limit limits.Image (image_words + 1)
 
 -- how `run` ends whose image could not be read
 abbrev pub image_ending : ImageError → Ending
 image_ending (image_errors.NotImage at) = NotImage at
-image_ending image_errors.TooLong = Refused too_many_words
+image_ending image_errors.TooLong = Refused long_image
 image_ending image_errors.NoMemory = Refused refusals.NoMemory

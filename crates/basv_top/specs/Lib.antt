@@ -1,6 +1,11 @@
 pub mod Command
-pub mod Ending
-pub mod InMemory
 pub mod Meant
+pub mod Ending
 pub mod Seen
+pub mod Taking
+pub mod Listings
+pub mod ListCommand
+pub mod CompileCommand
+pub mod RunCommand
 pub mod Top
+pub mod InMemory

@@ -1,13 +1,17 @@
-//! The program `basv` over any shelf and sinks: its commands, their statuses, and their lines on the error output.
+//! The program `basv` over any shelf and sinks: its commands, each in a file of its own, their statuses, and their lines on
+//! the error output.
 #![tactic(auto)]
 
 mod command;
+mod compile_command;
 mod ending;
 mod laws;
 mod limits;
-mod listing;
-mod report;
+mod list_command;
+mod message;
+mod run_command;
 mod status;
+mod taking;
 mod top;
 
 pub use bas_compile::{Refusal, Which, compile};

@@ -1,7 +1,7 @@
 use Rattle.std.proofs.Common.{arith, Ok, Err, OnErr, refl}
 use Rattle.std.proofs.lemmas.Result.{on_ok_weaker, on_err_weaker}
 use Rattle.basv_top.proofs.Written.{piece_written, piece_broken, end_written, end_broken}
-use Rattle.basv_top.proofs.report.write_line.Goals as goal
+use Rattle.basv_top.proofs.message.write_line.Goals as goal
 
 pub returns-in_err-write-clause-part : goal.returns-in_err-write-clause-part
 returns-in_err-write-clause-part g c =

@@ -1,7 +1,7 @@
 use Rattle.std.proofs.Common.{◌≤◌}
 use Rattle.basv_top.specs.Ending.{message_text}
 use Rattle.basv_top.proofs.Written.{WritesPieces}
-use Rattle.basv_top.proofs.report.write_line.Given as goal
+use Rattle.basv_top.proofs.message.write_line.Given as goal
 
 abbrev pub invariant-pieces : goal.invariant-pieces
 invariant-pieces g l =

@@ -1,3 +1,4 @@
+//! The line on the error output that an ending has.
 ghost use Rattle.std.specs.Prelude.{◌≡◌, ◌/◌, ◌%◌, ◌<◌, [], ◌∷◌, ◌++◌, OnOk, OnErr};
 ghost use Rattle.bv_io.specs.Shelf.{Rose};
 ghost use Rattle.bv_io.specs.Sink.{with_bytes, WritesPart};
@@ -251,7 +252,7 @@ fn write_ending<E: Sink>(err: &mut E, ending: Ending<'_>) -> Result<(), SinkFaul
 
 /// Writes the line of an ending on the error output, whose fault changes nothing.
 pub fn report<E: Sink>(err: &mut E, ending: Ending<'_>)
-    ensures { Writes (seen_sink E.written E.faults err.old) (seen_sink E.written E.faults err.new) (line_of (told ending.entry)) }
+    ensures { Writes (seen_sink E.Sink err.old) (seen_sink E.Sink err.new) (line_of (told ending.entry)) }
 {
     let _ = write_ending(err, ending);
 }

@@ -3,7 +3,7 @@ use Rattle.bv_io.specs.Sink.{with_bytes, WritesPart}
 use Rattle.basv_top.specs.declared.status.Status.TheVariants as statuses
 use Rattle.basv_top.specs.Ending.{told, status_of}
 use Rattle.basv_top.proofs.Endings.{line_of_ending}
-use Rattle.basv_top.proofs.report.write_ending.Goals as goal
+use Rattle.basv_top.proofs.message.write_ending.Goals as goal
 
 pub returns : goal.returns
 returns g c =
