@@ -1,3 +1,4 @@
+//! Names, calls and labels.
 ghost use Rattle.std.specs.Prelude.{◌≡◌, ℕ, List, ◌∷◌, MatchOption, true};
 ghost use Rattle.bas_lex.specs.Bytes.{at_sign, percent_sign, point, begins_name, is_in_name, NotFirst};
 ghost use Rattle.bas_lex.specs.Kinds.{call_token};

@@ -1,3 +1,4 @@
+//! The cut of a text into symbols, piece by piece.
 ghost use Rattle.std.specs.Prelude.{◌≡◌, ◌≢◌, ◌≤◌, ◌+◌, ◌∷◌, length, IfOk, IfErr};
 ghost use Rattle.std.specs.List.{AllByRecursion};
 ghost use Rattle.bas_lex.specs.Kinds.{IsSymbol};
