@@ -13,11 +13,12 @@ use Rattle.bas_lex.specs.declared.number.Radix.{Radix}
 use Rattle.bas_lex.specs.declared.number.Radix.TheVariants as radixes
 use Rattle.bas_lex.specs.declared.symbol.SymKind.{SymKind}
 use Rattle.bas_lex.specs.declared.symbol.SymKind.TheVariants as kinds
-use Rattle.bas_lex.specs.Bytes.{begins_name, Each, ampersand, at_sign, digit_0, digit_9, percent_sign, point, quotation_mark}
+use Rattle.bv_token.specs.Names.{begins_name}
+use Rattle.bas_lex.specs.Bytes.{Each, ampersand, at_sign, digit_0, digit_9, percent_sign, point, quotation_mark}
 use Rattle.bas_lex.specs.Kinds.{IsSymbol, IsSingle, IsPair, IsCall, IsNumber, base, signs, IsSign}
 use Rattle.bas_lex.specs.Scan.{Best, Names, SystemNames, Calls, Labels, Numbers, Texts, LineRefs, Tokens, Signs}
 use Rattle.bas_lex.proofs.Fronts.{best_map}
-use Rattle.bv_token.proofs.Lists.{same_head}
+use Rattle.bv_base.proofs.Lists.{same_head}
 use Rattle.bas_lex.proofs.Tokens.{pair_begins, pair_range, keyword_is_high}
 
 -- what can begin with a byte

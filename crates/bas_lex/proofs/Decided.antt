@@ -17,11 +17,12 @@ use Rattle.bas_lex.specs.declared.symbol.Mode.{Mode}
 use Rattle.bas_lex.specs.declared.symbol.Sym.{Sym}
 use Rattle.bas_lex.specs.declared.symbol.SymKind.{SymKind}
 use Rattle.bas_lex.specs.declared.symbol.SymKind.TheVariants as kinds
-use Rattle.bas_lex.specs.Bytes.{begins_name, is_in_name, ampersand, at_sign, digit_0, digit_9, dollar_sign, open_bracket, percent_sign, point, quotation_mark, space}
+use Rattle.bv_token.specs.Names.{begins_name, is_in_name}
+use Rattle.bas_lex.specs.Bytes.{ampersand, at_sign, digit_0, digit_9, dollar_sign, open_bracket, percent_sign, point, quotation_mark, space}
 use Rattle.bas_lex.specs.Kinds.{IsSymbol, suffix_bytes, bracket_bytes, call_token, radix_mark, value_bound, base, signs}
 use Rattle.bas_lex.specs.Cut.{Longest, Piece, Space, Comment, Tailed, begins_comment, AtComment, Fits, behind, behind_symbol, symbol_at, at_line, Cuts, symbols_of, Symbols, Bad, NoPiece}
 use Rattle.bas_lex.specs.Scan.{Best, SystemNames, Calls, Labels, Numbers, Texts, LineRefs, Tokens, Signs, SignsOf, IsRun, is_suffix, SplitsSuffix, SplitsBracket, SplitsPercent, EndsName, EndsLabel, NoLabelName, HasDigits, ClosesLast, longer_sign}
-use Rattle.bv_token.proofs.Lists.{same_head, same_tail}
+use Rattle.bv_base.proofs.Lists.{same_head, same_tail}
 use Rattle.bas_lex.proofs.Names.{name_best, call_best, no_call_best, system_best, no_system_name, label_plain, label_system, no_label_name, label_best, no_label, no_label_off}
 use Rattle.bas_lex.proofs.Numbers.{no_digits, too_great, number_best}
 use Rattle.bas_lex.proofs.Texts.{text_best, no_text, last_of}

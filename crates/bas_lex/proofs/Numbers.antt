@@ -17,25 +17,25 @@ use Rattle.bas_lex.specs.Cut.{Begins, Longest}
 use Rattle.bas_lex.specs.Scan.{IsRun, Numbers, HasDigits}
 use Rattle.bas_lex.proofs.Runs.{same_runs}
 
--- the digits at the front, as they were read
-front_run : (test : ℕ → Bool) (text : List ℕ) → (rest : List ℕ) × (run : IsRun test text rest) × (run.run ≡ take_while test text)
-front_run test [] = ([], record { run = []; each = tt; split = refl; stops = tt }, refl)
-front_run test (c ∷ text) = cases (test c) refl
-  where
-    behind : (rest : List ℕ) × (run : IsRun test text rest) × (run.run ≡ take_while test text)
-    behind = front_run test text
+-- the run of bytes at the front that pass a test, which is as long as it can be
+abbrev FrontRun : (ℕ → Bool) → List ℕ → Type 0
+FrontRun test text = (rest : List ℕ) × (run : IsRun test text rest) × (run.run ≡ take_while test text)
 
-    cases : (t : Bool) → test c ≡ t → (rest : List ℕ) × (run : IsRun test (c ∷ text) rest) × (run.run ≡ take_while test (c ∷ text))
-    cases true is = (
-      behind.0,
-      record { run = c ∷ behind.1.run; each = (is, behind.1.each); split = ap (λ l. c ∷ l) behind.1.split; stops = behind.1.stops },
-      ap (λ l. c ∷ l) behind.2 ∙ sym (take_while-cons test c text ∙ ap (λ t. cond t (c ∷ take_while test text) []) is),
-    )
-    cases false is = (
-      c ∷ text,
-      record { run = []; each = tt; split = refl; stops = is },
-      sym (take_while-cons test c text ∙ ap (λ t. cond t (c ∷ take_while test text) []) is),
-    )
+one_more_front : (test : ℕ → Bool) (c : ℕ) (text : List ℕ) (t : Bool) → test c ≡ t → FrontRun test text → FrontRun test (c ∷ text)
+one_more_front test c text true is behind = (
+  behind.0,
+  record { run = c ∷ behind.1.run; each = (is, behind.1.each); split = ap (λ l. c ∷ l) behind.1.split; stops = behind.1.stops },
+  ap (λ l. c ∷ l) behind.2 ∙ sym (take_while-cons test c text ∙ ap (λ t. cond t (c ∷ take_while test text) []) is),
+)
+one_more_front test c text false is behind = (
+  c ∷ text,
+  record { run = []; each = tt; split = refl; stops = is },
+  sym (take_while-cons test c text ∙ ap (λ t. cond t (c ∷ take_while test text) []) is),
+)
+
+front_run : (test : ℕ → Bool) (text : List ℕ) → FrontRun test text
+front_run test [] = ([], record { run = []; each = tt; split = refl; stops = tt }, refl)
+front_run test (c ∷ text) = one_more_front test c text (test c) refl (front_run test text)
 
 pub digits_read : (radix : Radix) (text : List ℕ) (digits : DigitRun) → digits.value ≡ min (front_value (base radix) text) (2 ^ 32) → digits.count ≡ length (front_digits (base radix) text) → HasDigits radix text digits
 unfolding front_value

@@ -10,9 +10,10 @@ use Rattle.bv_token.specs.References.{referred}
 use Rattle.bas_lex.specs.declared.number.Radix.{Radix}
 use Rattle.bas_lex.specs.declared.symbol.SymKind.{SymKind}
 use Rattle.bas_lex.specs.declared.symbol.SymKind.TheVariants as kinds
-use Rattle.bas_lex.specs.Bytes.{is_in_name, NotFirst, open_bracket}
+use Rattle.bv_token.specs.Names.{is_in_name}
+use Rattle.bas_lex.specs.Bytes.{NotFirst, open_bracket}
 use Rattle.bas_lex.specs.Kinds.{IsSymbol, IsSingle, IsPair, IsSuffix, suffix_bytes, bracket_bytes, GoesOn, IsPlainName, IsCall, IsNumber, IsLineRef, radix_mark, base, signs}
-use Rattle.bv_token.proofs.Lists.{same_head, same_tail}
+use Rattle.bv_base.proofs.Lists.{same_head, same_tail}
 use Rattle.bas_lex.proofs.Runs.{same_runs}
 use Rattle.bas_lex.proofs.Classes.{Class, OfName, OfSystemName, OfText, OfLabel, OfLineRef, OfToken, OfSign, OfCall, OfNumber, class_of, of_class, class_of_symbol, at_place}
 

@@ -1,9 +1,8 @@
 -- Tests of bytes, and what stands at the front of a list.
 use Rattle.std.specs.Prelude.{◌≡◌, ℕ, Bool, true, false, ◌||◌, ◌==◌, List, [], ◌∷◌}
-use Rattle.std.specs.Char.{is_ascii_alphabetic, is_ascii_digit}
 use Rattle.std.specs.List.{AllByRecursion}
 
--- the bytes that the definitions name, in ASCII but for the pound sign, which has a place of its own in Acorn's set
+-- the bytes that the definitions name, in ASCII
 abbrev pub space : ℕ
 space = 0x20
 
@@ -39,20 +38,6 @@ at_sign = 0x40
 
 abbrev pub backslash : ℕ
 backslash = 0x5c
-
-abbrev pub underscore : ℕ
-underscore = 0x5f
-
-abbrev pub pound_sign : ℕ
-pound_sign = 0x60
-
--- a letter, `_` or the pound sign
-abbrev pub begins_name : ℕ → Bool
-begins_name c = is_ascii_alphabetic c || (c == underscore || c == pound_sign)
-
--- a letter, a digit, `_` or the pound sign
-abbrev pub is_in_name : ℕ → Bool
-is_in_name c = begins_name c || is_ascii_digit c
 
 -- each byte passes the test
 abbrev pub Each : (ℕ → Bool) → List ℕ → Type 0

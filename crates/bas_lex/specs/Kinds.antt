@@ -13,7 +13,8 @@ use Rattle.bas_lex.specs.declared.sign_numbers.TheConstants.{PLUS, MINUS, TIMES,
 use Rattle.bas_lex.specs.declared.symbol.TheConstants.{NO_SUFFIX}
 use Rattle.bas_lex.specs.declared.symbol.SymKind.{SymKind}
 use Rattle.bas_lex.specs.declared.symbol.SymKind.TheVariants as kinds
-use Rattle.bas_lex.specs.Bytes.{quotation_mark, dollar_sign, percent_sign, ampersand, open_bracket, point, at_sign, begins_name, is_in_name, Each, NotFirst}
+use Rattle.bv_token.specs.Names.{begins_name, is_in_name}
+use Rattle.bas_lex.specs.Bytes.{quotation_mark, dollar_sign, percent_sign, ampersand, open_bracket, point, at_sign, Each, NotFirst}
 
 -- A keyword's byte, other than REM and DATA, which have a Tail.
 pub record IsSingle (n : ℕ) (bytes : List ℕ) : Type 0 where

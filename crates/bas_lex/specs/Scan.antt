@@ -12,7 +12,8 @@ use Rattle.bas_lex.specs.declared.symbol.SymKind.{SymKind}
 use Rattle.bas_lex.specs.declared.symbol.SymKind.TheVariants as kinds
 use Rattle.bas_lex.specs.declared.text.Part.{Part}
 use Rattle.bas_lex.specs.declared.text.Part.TheVariants as parts
-use Rattle.bas_lex.specs.Bytes.{quotation_mark, dollar_sign, percent_sign, open_bracket, is_in_name, Each, NotFirst}
+use Rattle.bv_token.specs.Names.{is_in_name}
+use Rattle.bas_lex.specs.Bytes.{quotation_mark, dollar_sign, percent_sign, open_bracket, Each, NotFirst}
 use Rattle.bas_lex.specs.Kinds.{IsSuffix, suffix_bytes, bracket_bytes, IsPlainName, IsSystemName, IsName, IsCall, IsLabel, IsSingle, IsPair, IsNumber, base, doubled, IsText, IsLineRef, signs}
 use Rattle.bas_lex.specs.Cut.{Begins, Longest}
 

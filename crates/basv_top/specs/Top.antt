@@ -1,5 +1,5 @@
 -- What a command does, and why it ends as it does. This project's own.
-use Rattle.std.specs.Prelude.{◌≡◌, ◌⊎◌, ℕ, ◌<◌, ◌≤◌, List, [], length, flat_map, Option, Some, None}
+use Rattle.std.specs.Prelude.{◌≡◌, ◌⊎◌, ℕ, ◌<◌, ◌≤◌, List, [], length, Option, Some, None}
 use Rattle.bv_run.specs.declared.report.RunEnd.{RunEnd}
 use Rattle.bv_run.specs.declared.report.RunEnd.TheVariants as ends
 use Rattle.bv_run.specs.Outcome.{Outcome, Over, Going, Broken, output_of}
@@ -7,7 +7,7 @@ use Rattle.bv_io.specs.Shelf.{Rose, Tells, TellsMore}
 use Rattle.bv_io.specs.Sink.{with_bytes, WritesPart}
 use Rattle.token_file.specs.declared.line.Line.{Line}
 use Rattle.token_file.specs.Lines.{Lines}
-use Rattle.lister.specs.Listing.{listing}
+use Rattle.lister.specs.Listings.{listings}
 use Rattle.arm2_machine.specs.Words.{AreWords}
 use Rattle.arm2_machine.specs.Image as images
 use Rattle.arm2_machine.specs.Image.{ImageOf, IsTooLong}
@@ -40,10 +40,6 @@ pub record GivesLines (before : SeenShelf) (file : List ℕ) (lines : List Line)
   pub given : Tells (before.content file) (Some bytes)
   pub short : length bytes ≤ file_bytes
   pub read : Lines bytes lines
-
--- the listing of every line, in order
-abbrev pub listings : List Line → List ℕ
-listings lines = flat_map listing lines
 
 -- The file is refused by `list` for this reason, which is one of the file's bytes or of its records.
 abbrev pub Unlistable : List ℕ → Refusal → Type 0

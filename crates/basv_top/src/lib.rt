@@ -5,7 +5,6 @@ mod command;
 mod ending;
 mod laws;
 mod limits;
-mod listing;
 mod report;
 mod status;
 mod top;

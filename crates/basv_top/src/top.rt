@@ -3,6 +3,7 @@ ghost use Rattle.bv_io.specs.Shelf.{Rose, Tells};
 ghost use Rattle.bv_io.specs.Sink.{with_bytes};
 ghost use Rattle.token_file.specs.declared.line.Line.{Line as FileLine};
 ghost use Rattle.token_file.specs.Lines.{Lines};
+ghost use Rattle.lister.specs.Listings.{listings};
 ghost use Rattle.arm2_machine.specs.Image.{ImageOf};
 ghost use Rattle.arm2_machine.specs.Words.{AreWords};
 ghost use Rattle.bas_compile.specs.declared.item.ProgramLine.{ProgramLine as Line};
@@ -12,12 +13,11 @@ ghost use Rattle.basv_top.specs.Ending.{Ending as Verdict, told, ended, ended_ru
 ghost use Rattle.bas_compile.specs.Grammar.{Accepted};
 ghost use Rattle.bas_compile.specs.Refused.{Refused};
 ghost use Rattle.basv_top.specs.Seen.{seen_shelf, seen_sink};
-ghost use Rattle.basv_top.specs.Top.{WritesImage, GivesLines, listings, Unlistable, NotTaken, Explains, ExplainsCompile, ExplainsList, GivesImage, HasRun, Unrunnable, ExplainsWords, ExplainsRun, Ends, MayWrite, EndsRun, BeganRun, MayChange};
+ghost use Rattle.basv_top.specs.Top.{WritesImage, GivesLines, Unlistable, NotTaken, Explains, ExplainsCompile, ExplainsList, GivesImage, HasRun, Unrunnable, ExplainsWords, ExplainsRun, Ends, MayWrite, EndsRun, BeganRun, MayChange};
 
 use crate::command::{Command, read_command};
 use crate::ending::Ending;
 use crate::limits::LONG_IMAGE;
-use crate::listing::list_lines;
 use crate::report::report;
 use crate::status::Status;
 use arm2_machine::{Board, read_image};
@@ -25,6 +25,7 @@ use bas_compile::{LONG_FILE, Refusal, compile};
 use bv_base::{FILE_BYTES, IMAGE_BYTES, IMAGE_WORDS};
 use bv_io::{Shelf, Sink};
 use bv_run::RunEnd;
+use lister::list_lines;
 use std::alloc::Global;
 use token_file::read_file;
 

@@ -4,7 +4,7 @@ use Rattle.std.specs.List.{list_any}
 use Rattle.std.proofs.lemmas.Bool.{cases_eq, cases_lt}
 use Rattle.token_file.specs.declared.line.Line.{Line}
 use Rattle.token_file.specs.Lines.{record_start, end_mark, head_bytes, record_of, IsLine, Lines, BeginsRecord, BeginsEnd, Malformed}
-use Rattle.bv_token.proofs.Lists.{same_head, same_tail}
+use Rattle.bv_base.proofs.Lists.{same_head, same_tail}
 use Rattle.token_file.proofs.Fronts.{is_start, split_joins, text_with_start, is_record}
 
 -- a fact that is decided by a test

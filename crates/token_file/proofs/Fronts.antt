@@ -4,7 +4,7 @@ use Rattle.std.specs.List.{AllByRecursion, list_any}
 use Rattle.token_file.specs.declared.line.Line.{Line}
 use Rattle.bv_base.specs.Limits.{longest_text, line_numbers}
 use Rattle.token_file.specs.Lines.{record_start, end_mark, head_bytes, record_of, IsLine, BeginsRecord}
-use Rattle.bv_token.proofs.Lists.{same_head, same_tail, same_fronts}
+use Rattle.bv_base.proofs.Lists.{same_head, same_tail, same_fronts}
 
 abbrev pub is_start : ℕ → Bool
 is_start b = nat_eq b record_start

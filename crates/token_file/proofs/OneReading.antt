@@ -1,7 +1,6 @@
 -- The law of a file's reading, for crates above.
-use Rattle.std.proofs.Common.{◌≡◌, ℕ, List, refl, sym, ◌∙◌}
-use Rattle.token_file.specs.declared.line.Line.{Line}
-use Rattle.token_file.specs.Lines.{Lines, Malformed, OneReading}
+use Rattle.std.proofs.Common.{ℕ, List, refl, sym, ◌∙◌}
+use Rattle.token_file.specs.Lines.{OneReading}
 use Rattle.token_file.proofs.Decided.{every_file_is_read}
 use Rattle.token_file.proofs.Records.{one_list_of_lines, lines≢malformed, one_place}
 

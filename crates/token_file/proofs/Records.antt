@@ -1,7 +1,7 @@
 -- A file has one reading: one list of lines, or one place where it is malformed.
 use Rattle.std.proofs.Common.{◌≡◌, ℕ, ◌+◌, ◌/◌, ◌%◌, List, [], ◌∷◌, ◌++◌, length, flat_map, refl, sym, ap, ◌∙◌, arith, append_assoc, length-append}
 use Rattle.std.specs.List.{AllByRecursion}
-use Rattle.bv_token.proofs.Lists.{same_head, same_tail, same_fronts}
+use Rattle.bv_base.proofs.Lists.{same_head, same_tail, same_fronts}
 use Rattle.token_file.specs.declared.line.Line.{Line}
 use Rattle.token_file.specs.Lines.{record_start, end_mark, head_bytes, record_of, IsLine, Lines, BeginsRecord, BeginsEnd}
 

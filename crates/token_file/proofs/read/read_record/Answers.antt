@@ -1,6 +1,6 @@
 use Rattle.std.proofs.Common.{◌≡◌, ◌+◌, ◌<◌, arith, ◌∙◌, sym}
 use Rattle.token_file.specs.Lines.{end_mark, head_bytes}
-use Rattle.bv_token.proofs.Lists.{same_head, same_tail}
+use Rattle.bv_base.proofs.Lists.{same_head, same_tail}
 use Rattle.token_file.proofs.Fronts.{split_joins, text_with_start, is_record}
 use Rattle.token_file.proofs.read.read_record.Goals as goal
 

@@ -1,8 +1,9 @@
+//! The listing of a program.
 ghost use Rattle.std.specs.Prelude.{◌≡◌, IfOk};
-ghost use Rattle.basv_top.specs.Top.{listings};
+ghost use Rattle.lister.specs.Listings.{listings};
 
+use crate::line::list_line;
 use bv_base::NoMemory;
-use lister::list_line;
 use std::alloc::Global;
 use token_file::Line;
 
