@@ -1,7 +1,7 @@
 -- A file is accepted as one program at most.
 use Rattle.std.proofs.Common.{◌≡◌, ℕ, List, [], ◌∷◌, refl, sym, ap, subst, ◌∙◌, arith}
 use Rattle.token_file.specs.declared.line.Line.{Line}
-use Rattle.bv_token.proofs.Lists.{same_head, same_tail}
+use Rattle.bv_base.proofs.Lists.{same_head, same_tail}
 use Rattle.token_file.proofs.Records.{one_list_of_lines}
 use Rattle.bv_token.specs.declared.tokens.TheConstants.{END, VDU}
 use Rattle.bas_compile.specs.declared.item.Item.{Item}

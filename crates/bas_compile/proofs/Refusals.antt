@@ -2,7 +2,7 @@
 use Rattle.std.proofs.Common.{◌≡◌, ◌⊎◌, inl, inr, ℕ, ◌+◌, ◌<◌, List, [], ◌∷◌, ◌++◌, length, Result, Ok, Err, IsErrAnd, refl, sym, ap, subst, ◌∙◌, arith, Vec, Global, IfOk, IfErr, IsOkUnless}
 use Rattle.token_file.specs.declared.line.Line.{Line}
 use Rattle.token_file.specs.Lines.{Lines, Malformed}
-use Rattle.bv_token.proofs.Lists.{same_head, same_tail}
+use Rattle.bv_base.proofs.Lists.{same_head, same_tail}
 use Rattle.token_file.proofs.Records.{one_list_of_lines, lines≢malformed, one_place}
 use Rattle.bas_compile.specs.declared.item.Item.{Item}
 use Rattle.bas_compile.specs.declared.item.ProgramLine.{ProgramLine}

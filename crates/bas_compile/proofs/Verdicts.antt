@@ -4,7 +4,7 @@ use Rattle.std.specs.List.{AllByRecursion}
 use Rattle.token_file.specs.declared.line.Line.{Line}
 use Rattle.std.proofs.lemmas.Bool.{cases_eq, cases_lt}
 use Rattle.token_file.proofs.Decided.{Decided, every_file_is_read}
-use Rattle.bv_token.proofs.Lists.{same_head, same_tail}
+use Rattle.bv_base.proofs.Lists.{same_head, same_tail}
 use Rattle.bv_token.specs.declared.tokens.TheConstants.{END, VDU}
 use Rattle.bas_compile.specs.declared.item.Item.{Item}
 use Rattle.bas_compile.specs.declared.item.Item.TheVariants.{Vdu, End}

@@ -6,17 +6,19 @@ use Rattle.std.proofs.lemmas.Bool.Decides.{nat_tests}
 use Rattle.bv_token.specs.declared.reference.TheConstants.{LINE_REFERENCE}
 use Rattle.bv_token.specs.declared.tokens.TheConstants.{OTHERWISE, FN, PROC}
 use Rattle.std.specs.Char.{is_ascii_digit}
-use Rattle.std.specs.Int.{is_in_range}
+use Rattle.bv_num.specs.Digits.{is_digit}
+use Rattle.bv_num.proofs.Numerals.{decimal_byte}
 use Rattle.bas_lex.specs.declared.front.Front.{Front}
 use Rattle.bas_lex.specs.declared.number.Radix.{Radix}
 use Rattle.bas_lex.specs.declared.number.Radix.TheVariants as radixes
 use Rattle.bas_lex.specs.declared.symbol.SymKind.{SymKind}
 use Rattle.bas_lex.specs.declared.symbol.SymKind.TheVariants as kinds
-use Rattle.bas_lex.specs.Bytes.{begins_name, Each, ampersand, at_sign, capital_a, capital_f, digit_0, digit_9, percent_sign, point, quotation_mark, small_a, small_f}
-use Rattle.bas_lex.specs.Kinds.{IsSymbol, IsSingle, IsPair, IsCall, IsNumber, is_digit, signs, IsSign}
+use Rattle.bv_token.specs.Names.{begins_name}
+use Rattle.bas_lex.specs.Bytes.{Each, ampersand, at_sign, digit_0, digit_9, percent_sign, point, quotation_mark}
+use Rattle.bas_lex.specs.Kinds.{IsSymbol, IsSingle, IsPair, IsCall, IsNumber, base, signs, IsSign}
 use Rattle.bas_lex.specs.Scan.{Best, Names, SystemNames, Calls, Labels, Numbers, Texts, LineRefs, Tokens, Signs}
 use Rattle.bas_lex.proofs.Fronts.{best_map}
-use Rattle.bv_token.proofs.Lists.{same_head}
+use Rattle.bv_base.proofs.Lists.{same_head}
 use Rattle.bas_lex.proofs.Tokens.{pair_begins, pair_range, keyword_is_high}
 
 -- what can begin with a byte
@@ -78,25 +80,13 @@ in_class asm kind bytes rest first more class spelled e is = record {
   is = subst (λ c. of_class c asm kind bytes rest) (sym e) is;
 }
 
-digit_within : (c : ℕ) → is_digit radixes.Decimal c ≡ true → (digit_0 ≤ c) × (c ≤ digit_9)
-digit_within c passes = by_test (is_ascii_digit c) refl (ltb-true _ _ passes)
-  where
-    by_test : (t : Bool) → is_ascii_digit c ≡ t → (if t then c - digit_0 else if is_in_range capital_a capital_f c then c - capital_a + 10 else if is_in_range small_a small_f c then c - small_a + 10 else 16) < 10 → (digit_0 ≤ c) × (c ≤ digit_9)
-    by_test true is small = let parts = and_parts (nat_le digit_0 c) (nat_le c digit_9) is in (leb-true digit_0 c parts.0, leb-true c digit_9 parts.1)
-    by_test false is small = absurd (by_upper (is_in_range capital_a capital_f c) refl small)
-      where
-        by_lower : (t : Bool) → is_in_range small_a small_f c ≡ t → (if t then c - small_a + 10 else 16) < 10 → ⊥
-        by_lower true is small = let low = leb-true small_a c (and_parts (nat_le small_a c) (nat_le c small_f) is).0 in omega (arith, low, small)
-        by_lower false is small = omega (arith, small)
-
-        by_upper : (t : Bool) → is_in_range capital_a capital_f c ≡ t → (if t then c - capital_a + 10 else if is_in_range small_a small_f c then c - small_a + 10 else 16) < 10 → ⊥
-        by_upper true is small = let low = leb-true capital_a c (and_parts (nat_le capital_a c) (nat_le c capital_f) is).0 in omega (arith, low, small)
-        by_upper false is small = by_lower (is_in_range small_a small_f c) refl small
+digit_within : (c : ℕ) → is_digit (base radixes.Decimal) c ≡ true → (digit_0 ≤ c) × (c ≤ digit_9)
+digit_within c passes = decimal_byte c (ltb-true _ _ passes)
 
 number_class : (asm : Bool) (radix : Radix) (value : ℤ) (bytes rest : List ℕ) → IsNumber radix value bytes rest → InClass asm (kinds.Number value) bytes rest
 number_class asm radixes.Decimal value bytes rest is = by_digits is.digits is.some is.each is.spelled
   where
-    by_digits : (digits : List ℕ) → digits ≢ [] → Each (is_digit radixes.Decimal) digits → bytes ≡ digits → InClass asm (kinds.Number value) bytes rest
+    by_digits : (digits : List ℕ) → digits ≢ [] → Each (is_digit (base radixes.Decimal)) digits → bytes ≡ digits → InClass asm (kinds.Number value) bytes rest
     by_digits [] some each spelled = absurd (some refl)
     by_digits (c ∷ digits) some each spelled =
         let within = digit_within c each.0 in in_class asm (kinds.Number value) bytes rest c digits (OfNumber radixes.Decimal) spelled (class_decimal c within.0 within.1) is

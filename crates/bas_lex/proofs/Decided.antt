@@ -1,5 +1,5 @@
 -- Every text is cut into symbols, or is bad at a place.
-use Rattle.std.proofs.Common.{◌≡◌, ◌≢◌, ◌⊎◌, inl, inr, ℕ, zero, suc, ◌+◌, ◌*◌, ◌-◌, ◌≤◌, ◌<◌, min, Bool, true, false, ◌||◌, ◌==◌, List, [], ◌∷◌, ◌++◌, length, drop, Option, Some, None, is_some, refl, sym, ap, subst, ◌∙◌, arith, append_assoc, append-nil, length-append, true≢false}
+use Rattle.std.proofs.Common.{◌≡◌, ◌≢◌, ◌⊎◌, inl, inr, ℕ, zero, suc, ◌+◌, ◌*◌, ◌-◌, ◌^◌, ◌≤◌, ◌<◌, min, Bool, true, false, ◌||◌, ◌==◌, List, [], ◌∷◌, ◌++◌, length, drop, Option, Some, None, is_some, refl, sym, ap, subst, ◌∙◌, arith, append_assoc, append-nil, length-append, true≢false}
 use Rattle.std.specs.Int.{w32, cast_signed, cast_unsigned}
 use Rattle.std.proofs.lemmas.Bool.{cases_eq, cases_lt, cases_Bool, ne_eqb}
 use Rattle.bv_token.specs.declared.reference.TheConstants.{LINE_REFERENCE}
@@ -8,19 +8,21 @@ use Rattle.bv_token.specs.Tokens.{begins_pair, keyword_of}
 use Rattle.bv_token.specs.References.{referred}
 use Rattle.bas_lex.specs.declared.front.Front.{Front}
 use Rattle.bas_lex.specs.declared.name.NameEnd.{NameEnd}
-use Rattle.bas_lex.specs.declared.number.Digits.{Digits}
+use Rattle.bv_num.specs.declared.value.DigitRun.{DigitRun}
+use Rattle.bv_num.specs.Digits.{is_digit}
+use Rattle.std.specs.Str.Parse.{digits_value}
 use Rattle.bas_lex.specs.declared.number.Radix.{Radix}
 use Rattle.bas_lex.specs.declared.number.Radix.TheVariants as radixes
-use Rattle.bas_lex.specs.declared.number.TheConstants.{VALUE_CAP}
 use Rattle.bas_lex.specs.declared.symbol.Mode.{Mode}
 use Rattle.bas_lex.specs.declared.symbol.Sym.{Sym}
 use Rattle.bas_lex.specs.declared.symbol.SymKind.{SymKind}
 use Rattle.bas_lex.specs.declared.symbol.SymKind.TheVariants as kinds
-use Rattle.bas_lex.specs.Bytes.{begins_name, is_in_name, ampersand, at_sign, digit_0, digit_9, dollar_sign, open_bracket, percent_sign, point, quotation_mark, space}
-use Rattle.bas_lex.specs.Kinds.{IsSymbol, suffix_bytes, bracket_bytes, call_token, radix_mark, value_bound, is_digit, value_of, signs}
+use Rattle.bv_token.specs.Names.{begins_name, is_in_name}
+use Rattle.bas_lex.specs.Bytes.{ampersand, at_sign, digit_0, digit_9, dollar_sign, open_bracket, percent_sign, point, quotation_mark, space}
+use Rattle.bas_lex.specs.Kinds.{IsSymbol, suffix_bytes, bracket_bytes, call_token, radix_mark, value_bound, base, signs}
 use Rattle.bas_lex.specs.Cut.{Longest, Piece, Space, Comment, Tailed, begins_comment, AtComment, Fits, behind, behind_symbol, symbol_at, at_line, Cuts, symbols_of, Symbols, Bad, NoPiece}
 use Rattle.bas_lex.specs.Scan.{Best, SystemNames, Calls, Labels, Numbers, Texts, LineRefs, Tokens, Signs, SignsOf, IsRun, is_suffix, SplitsSuffix, SplitsBracket, SplitsPercent, EndsName, EndsLabel, NoLabelName, HasDigits, ClosesLast, longer_sign}
-use Rattle.bv_token.proofs.Lists.{same_head, same_tail}
+use Rattle.bv_base.proofs.Lists.{same_head, same_tail}
 use Rattle.bas_lex.proofs.Names.{name_best, call_best, no_call_best, system_best, no_system_name, label_plain, label_system, no_label_name, label_best, no_label, no_label_off}
 use Rattle.bas_lex.proofs.Numbers.{no_digits, too_great, number_best}
 use Rattle.bas_lex.proofs.Texts.{text_best, no_text, last_of}
@@ -131,10 +133,10 @@ label_of true after =
       | inr none ↦ (None, no_label after true none)
     ]
 
-digits_of : (radix : Radix) (text : List ℕ) → (digits : Digits) × HasDigits radix text digits
+digits_of : (radix : Radix) (text : List ℕ) → (digits : DigitRun) × HasDigits radix text digits
 digits_of radix text =
-    let run = run_of (is_digit radix) text in
-    (record { value = min (value_of radix run.1.run) VALUE_CAP; count = length run.1.run }, record { rest = run.0; run = run.1; value = refl; count = refl })
+    let run = run_of (is_digit (base radix)) text in
+    (record { value = min (digits_value (base radix) run.1.run) (2 ^ 32); count = length run.1.run }, record { rest = run.0; run = run.1; value = refl; count = refl })
 
 number_of : (radix : Radix) (text : List ℕ) → Answer (Numbers radix) (radix_mark radix ++ text)
 number_of radix text =

@@ -3,12 +3,13 @@ use Rattle.std.proofs.Common.{◌≡◌, ◌≢◌, ◌⊎◌, inl, inr, ℕ, �
 use Rattle.bas_lex.specs.declared.name.NameEnd.{NameEnd}
 use Rattle.bas_lex.specs.declared.symbol.SymKind.{SymKind}
 use Rattle.bas_lex.specs.declared.symbol.SymKind.TheVariants as kinds
-use Rattle.bas_lex.specs.Bytes.{begins_name, is_in_name, Each, NotFirst, at_sign, dollar_sign, open_bracket, percent_sign, point}
+use Rattle.bv_token.specs.Names.{begins_name, is_in_name}
+use Rattle.bas_lex.specs.Bytes.{Each, NotFirst, at_sign, dollar_sign, open_bracket, percent_sign, point}
 use Rattle.bv_token.specs.Tokens.{keyword_of_token}
 use Rattle.bas_lex.specs.Kinds.{IsSuffix, suffix_bytes, bracket_bytes, GoesOn, IsName, call_token, IsSingle}
 use Rattle.bas_lex.specs.Cut.{Begins, Longest}
 use Rattle.bas_lex.specs.Scan.{Names, SystemNames, Calls, Labels, IsRun, is_percent, is_suffix, is_bracket, SplitsSuffix, SplitsBracket, SplitsPercent, EndsName, EndsLabel, NoLabelName}
-use Rattle.bv_token.proofs.Lists.{same_head, same_tail}
+use Rattle.bv_base.proofs.Lists.{same_head, same_tail}
 use Rattle.bas_lex.proofs.Runs.{not_first, covers, each_back}
 
 -- a bracket is taken where it stands

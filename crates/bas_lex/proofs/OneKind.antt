@@ -2,6 +2,7 @@
 use Rattle.std.proofs.Common.{◌≡◌, ◌⊎◌, inl, inr, ℕ, ℤ, zero, suc, Bool, true, false, not, ◌&&◌, ◌==◌, if◌then◌else◌, List, [], ◌∷◌, ◌++◌, length, slice_get, bytes_eq, Some, None, refl, sym, ap, subst, ◌∙◌, arith}
 use Rattle.std.specs.List.{list_all}
 use Rattle.std.specs.Int.{w32, cast_signed}
+use Rattle.std.specs.Str.Parse.{digits_value}
 use Rattle.std.proofs.lemmas.Bool.{and_parts, both_ways, not-true}
 use Rattle.std.proofs.lemmas.List.{append_cancel_left}
 use Rattle.std.proofs.lemmas.Slice.Eq.{bytes_eq-Decides}
@@ -9,9 +10,10 @@ use Rattle.bv_token.specs.References.{referred}
 use Rattle.bas_lex.specs.declared.number.Radix.{Radix}
 use Rattle.bas_lex.specs.declared.symbol.SymKind.{SymKind}
 use Rattle.bas_lex.specs.declared.symbol.SymKind.TheVariants as kinds
-use Rattle.bas_lex.specs.Bytes.{is_in_name, NotFirst, open_bracket}
-use Rattle.bas_lex.specs.Kinds.{IsSymbol, IsSingle, IsPair, IsSuffix, suffix_bytes, bracket_bytes, GoesOn, IsPlainName, IsCall, IsNumber, IsLineRef, radix_mark, value_of, signs}
-use Rattle.bv_token.proofs.Lists.{same_head, same_tail}
+use Rattle.bv_token.specs.Names.{is_in_name}
+use Rattle.bas_lex.specs.Bytes.{NotFirst, open_bracket}
+use Rattle.bas_lex.specs.Kinds.{IsSymbol, IsSingle, IsPair, IsSuffix, suffix_bytes, bracket_bytes, GoesOn, IsPlainName, IsCall, IsNumber, IsLineRef, radix_mark, base, signs}
+use Rattle.bv_base.proofs.Lists.{same_head, same_tail}
 use Rattle.bas_lex.proofs.Runs.{same_runs}
 use Rattle.bas_lex.proofs.Classes.{Class, OfName, OfSystemName, OfText, OfLabel, OfLineRef, OfToken, OfSign, OfCall, OfNumber, class_of, of_class, class_of_symbol, at_place}
 
@@ -65,7 +67,7 @@ call_once function a b c d bytes same_function f g =
 number_once : (radix : Radix) (a b : ℤ) (bytes rest : List ℕ) → IsNumber radix a bytes rest → IsNumber radix b bytes rest → a ≡ b
 number_once radix a b bytes rest f g =
     let digits : f.digits ≡ g.digits = append_cancel_left (radix_mark radix) f.digits g.digits (sym f.spelled ∙ g.spelled) in
-    f.signed ∙ ap (λ l. cast_signed w32 (value_of radix l)) digits ∙ sym g.signed
+    f.signed ∙ ap (λ l. cast_signed w32 (digits_value (base radix) l)) digits ∙ sym g.signed
 
 line_ref_once : (a b : ℕ) (bytes : List ℕ) → IsLineRef a bytes → IsLineRef b bytes → a ≡ b
 line_ref_once a b bytes f g =

@@ -12,7 +12,7 @@ use Rattle.bas_lex.specs.Kinds.{IsSymbol}
 use Rattle.bas_lex.specs.Cut.{Begins, Longest, Piece, Space, Comment, Symbol, Tailed, begins_comment, AtComment, Fits, behind_symbol, symbol_at, NoPiece}
 use Rattle.bas_lex.specs.Scan.{Best}
 use Rattle.bas_lex.specs.Next.{TakesPiece}
-use Rattle.bv_token.proofs.Lists.{same_head, same_fronts}
+use Rattle.bv_base.proofs.Lists.{same_head, same_fronts}
 use Rattle.bas_lex.proofs.Classes.{class_of_symbol}
 
 -- no symbol is empty

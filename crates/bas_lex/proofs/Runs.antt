@@ -2,7 +2,7 @@
 use Rattle.std.proofs.Common.{◌≡◌, ℕ, ◌≤◌, Bool, true, List, [], ◌∷◌, ◌++◌, length, refl, sym, ap, subst, ◌∙◌, arith, append_assoc, length-append, Option, Some, None, MatchOption}
 use Rattle.std.specs.List.{AllByRecursion}
 use Rattle.std.proofs.lemmas.Bool.{both_ways}
-use Rattle.bv_token.proofs.Lists.{same_head, same_tail, same_fronts}
+use Rattle.bv_base.proofs.Lists.{same_head, same_tail, same_fronts}
 use Rattle.bas_lex.specs.Bytes.{Each, NotFirst}
 use Rattle.bas_lex.specs.Scan.{IsRun}
 

@@ -7,7 +7,7 @@ use Rattle.bas_lex.specs.Bytes.{NotFirst, quotation_mark}
 use Rattle.bas_lex.specs.Kinds.{doubled}
 use Rattle.bas_lex.specs.Cut.{Begins, Longest}
 use Rattle.bas_lex.specs.Scan.{Texts, is_quote, Closes, ClosesLast}
-use Rattle.bv_token.proofs.Lists.{same_head, same_tail}
+use Rattle.bv_base.proofs.Lists.{same_head, same_tail}
 use Rattle.bas_lex.proofs.Runs.{not_first}
 
 -- Where a string is closed: at a first quotation mark, behind two of them, or behind another byte.

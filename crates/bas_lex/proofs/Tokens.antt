@@ -12,7 +12,7 @@ use Rattle.bas_lex.specs.declared.symbol.SymKind.TheVariants as kinds
 use Rattle.bas_lex.specs.Kinds.{IsSingle, IsPair}
 use Rattle.bas_lex.specs.Cut.{Begins, Longest}
 use Rattle.bas_lex.specs.Scan.{Tokens, LineRefs}
-use Rattle.bv_token.proofs.Lists.{same_head, same_tail}
+use Rattle.bv_base.proofs.Lists.{same_head, same_tail}
 
 each_begins : (table : List Pair) → list_all (λ p. begins_pair p.first) table ≡ true → (first second : ℕ) → IsSome (keyword_of_pair table first second) → begins_pair first ≡ true
 each_begins [] all first second found = absurd (true≢false (sym found))

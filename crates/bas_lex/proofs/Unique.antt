@@ -11,7 +11,7 @@ use Rattle.bas_lex.specs.declared.symbol.SymKind.{SymKind}
 use Rattle.bas_lex.specs.declared.symbol.SymKind.TheVariants as kinds
 use Rattle.bas_lex.specs.Kinds.{IsSymbol, signs}
 use Rattle.bas_lex.specs.Cut.{Piece, Space, Comment, Symbol, Tailed, begins_comment, AtComment, Fits, behind, at_line, Cuts, symbols_of, Symbols, NoPiece, Bad}
-use Rattle.bv_token.proofs.Lists.{same_head, same_tail, same_fronts}
+use Rattle.bv_base.proofs.Lists.{same_head, same_tail, same_fronts}
 use Rattle.bas_lex.proofs.Tokens.{pair_begins}
 use Rattle.bas_lex.proofs.Classes.{OfSign, OfToken, class_of, of_class, class_of_symbol, at_place}
 use Rattle.bas_lex.proofs.OneKind.{one_kind}

@@ -1,11 +1,8 @@
 -- Tests of bytes, and what stands at the front of a list.
-use Rattle.std.specs.Prelude.{◌≡◌, ℕ, ◌+◌, ◌-◌, Bool, true, false, ◌||◌, ◌==◌, List, [], ◌∷◌, if◌then◌else◌}
-use Rattle.std.specs.Char.{is_ascii_alphabetic, is_ascii_digit}
-use Rattle.std.specs.Int.{is_in_range}
-use Rattle.bas_lex.specs.declared.number.TheConstants.{NO_DIGIT}
+use Rattle.std.specs.Prelude.{◌≡◌, ℕ, Bool, true, false, ◌||◌, ◌==◌, List, [], ◌∷◌}
 use Rattle.std.specs.List.{AllByRecursion}
 
--- the bytes that the definitions name, in ASCII but for the pound sign, which has a place of its own in Acorn's set
+-- the bytes that the definitions name, in ASCII
 abbrev pub space : ℕ
 space = 0x20
 
@@ -39,42 +36,8 @@ semicolon = 0x3b
 abbrev pub at_sign : ℕ
 at_sign = 0x40
 
-abbrev pub capital_a : ℕ
-capital_a = 0x41
-
-abbrev pub capital_f : ℕ
-capital_f = 0x46
-
 abbrev pub backslash : ℕ
 backslash = 0x5c
-
-abbrev pub underscore : ℕ
-underscore = 0x5f
-
-abbrev pub pound_sign : ℕ
-pound_sign = 0x60
-
-abbrev pub small_a : ℕ
-small_a = 0x61
-
-abbrev pub small_f : ℕ
-small_f = 0x66
-
--- a letter, `_` or the pound sign
-abbrev pub begins_name : ℕ → Bool
-begins_name c = is_ascii_alphabetic c || (c == underscore || c == pound_sign)
-
--- a letter, a digit, `_` or the pound sign
-abbrev pub is_in_name : ℕ → Bool
-is_in_name c = begins_name c || is_ascii_digit c
-
--- the value of a digit of base 16 or below, whose letters are of either case; that of any other byte no base exceeds
-abbrev pub digit_value : ℕ → ℕ
-digit_value c =
-    if is_ascii_digit c then c - digit_0
-    else if is_in_range capital_a capital_f c then c - capital_a + 10
-    else if is_in_range small_a small_f c then c - small_a + 10
-    else NO_DIGIT
 
 -- each byte passes the test
 abbrev pub Each : (ℕ → Bool) → List ℕ → Type 0

@@ -1,17 +1,20 @@
 -- Which bytes are one symbol, kind by kind (BBC BASIC Reference Manual, variables, constants, keywords and operators).
-use Rattle.std.specs.Prelude.{◌≡◌, ◌≢◌, ◌⊎◌, ℕ, ◌+◌, ◌*◌, ◌^◌, ◌<◌, Bool, true, false, ◌==◌, nat_lt, ℤ, List, [], ◌∷◌, ◌++◌, flat_map, fold, slice_get, Some, IsSome, codes, if◌then◌else◌}
+use Rattle.std.specs.Prelude.{◌≡◌, ◌≢◌, ◌⊎◌, ℕ, ◌+◌, ◌*◌, ◌^◌, ◌<◌, Bool, true, false, ◌==◌, ℤ, List, [], ◌∷◌, ◌++◌, flat_map, slice_get, Some, IsSome, codes, if◌then◌else◌}
 use Rattle.std.specs.Int.{w32, cast_signed}
+use Rattle.std.specs.Str.Parse.{digits_value}
+use Rattle.bv_num.specs.Digits.{is_digit}
 use Rattle.bv_token.specs.declared.reference.TheConstants.{LINE_REFERENCE}
 use Rattle.bv_token.specs.declared.tokens.TheConstants.{REM, DATA, FN, PROC}
 use Rattle.bv_token.specs.References.{referred}
 use Rattle.bv_token.specs.Tokens.{words, keyword_of_token, keyword_of_pair, pairs}
 use Rattle.bas_lex.specs.declared.number.Radix.{Radix}
 use Rattle.bas_lex.specs.declared.number.Radix.TheVariants as radixes
-use Rattle.bas_lex.specs.declared.sign_numbers.TheConstants.{PLUS, MINUS, TIMES, EQUALS, LESS, GREATER, NOT_EQUAL, LESS_OR_EQUAL, GREATER_OR_EQUAL, SHIFT_LEFT, SHIFT_RIGHT_SIGNED, SHIFT_RIGHT, PLUS_EQUALS, MINUS_EQUALS, OPEN_ROUND, CLOSE_ROUND, COMMA, SEMICOLON, COLON, APOSTROPHE, TILDE, QUESTION, EXCLAMATION, DOLLAR, HASH, OPEN_SQUARE, CLOSE_SQUARE, OPEN_CURLY, CLOSE_CURLY, CARET}
+use Rattle.bas_lex.specs.declared.sign_numbers.TheConstants.{PLUS, MINUS, TIMES, EQUALS, LESS, GREATER, NOT_EQUAL, LESS_OR_EQUAL, GREATER_OR_EQUAL, SHIFT_LEFT, SHIFT_RIGHT, SHIFT_RIGHT_LOGICAL, PLUS_EQUALS, MINUS_EQUALS, OPEN_ROUND, CLOSE_ROUND, COMMA, SEMICOLON, COLON, APOSTROPHE, TILDE, QUESTION, EXCLAMATION, DOLLAR, HASH, OPEN_SQUARE, CLOSE_SQUARE, OPEN_CURLY, CLOSE_CURLY, CARET}
 use Rattle.bas_lex.specs.declared.symbol.TheConstants.{NO_SUFFIX}
 use Rattle.bas_lex.specs.declared.symbol.SymKind.{SymKind}
 use Rattle.bas_lex.specs.declared.symbol.SymKind.TheVariants as kinds
-use Rattle.bas_lex.specs.Bytes.{quotation_mark, dollar_sign, percent_sign, ampersand, open_bracket, point, at_sign, begins_name, is_in_name, digit_value, Each, NotFirst}
+use Rattle.bv_token.specs.Names.{begins_name, is_in_name}
+use Rattle.bas_lex.specs.Bytes.{quotation_mark, dollar_sign, percent_sign, ampersand, open_bracket, point, at_sign, Each, NotFirst}
 
 -- A keyword's byte, other than REM and DATA, which have a Tail.
 pub record IsSingle (n : ℕ) (bytes : List ℕ) : Type 0 where
@@ -104,22 +107,14 @@ value_bound radixes.Decimal = 2 ^ 31
 value_bound radixes.Hexadecimal = 2 ^ 32
 value_bound radixes.Binary = 2 ^ 32
 
--- a digit, of either case
-abbrev pub is_digit : Radix → ℕ → Bool
-is_digit radix c = nat_lt (digit_value c) (base radix)
-
--- the value of digits
-abbrev pub value_of : Radix → List ℕ → ℕ
-value_of radix digits = fold (λ n c. base radix * n + digit_value c) 0 digits
-
 -- A number: all the digits that stand there, with a value below the bound, which is taken as a signed 32-bit number.
 pub record IsNumber (radix : Radix) (value : ℤ) (bytes rest : List ℕ) : Type 0 where
   pub digits : List ℕ
   pub some : digits ≢ []
-  pub each : Each (is_digit radix) digits
-  pub all : NotFirst (is_digit radix) rest
-  pub small : value_of radix digits < value_bound radix
-  pub signed : value ≡ cast_signed w32 (value_of radix digits)
+  pub each : Each (is_digit (base radix)) digits
+  pub all : NotFirst (is_digit (base radix)) rest
+  pub small : digits_value (base radix) digits < value_bound radix
+  pub signed : value ≡ cast_signed w32 (digits_value (base radix) digits)
   pub spelled : bytes ≡ radix_mark radix ++ digits
 
 -- a text with each quotation mark written twice
@@ -159,8 +154,8 @@ numbered_signs =
     (LESS_OR_EQUAL, codes "<=") ∷
     (GREATER_OR_EQUAL, codes ">=") ∷
     (SHIFT_LEFT, codes "<<") ∷
-    (SHIFT_RIGHT_SIGNED, codes ">>") ∷
-    (SHIFT_RIGHT, codes ">>>") ∷
+    (SHIFT_RIGHT, codes ">>") ∷
+    (SHIFT_RIGHT_LOGICAL, codes ">>>") ∷
     (PLUS_EQUALS, codes "+=") ∷
     (MINUS_EQUALS, codes "-=") ∷
     (OPEN_ROUND, codes "(") ∷

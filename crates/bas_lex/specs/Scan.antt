@@ -1,18 +1,20 @@
 -- What the reader's parts answer: the longest symbol of some kinds at the front of a text.
-use Rattle.std.specs.Prelude.{nat_eq, nat_le, slice_get, if◌then◌else◌, ◌≡◌, ◌≢◌, ◌⊎◌, ℕ, ◌+◌, ◌≤◌, min, Bool, true, false, ◌||◌, ◌==◌, List, [], ◌∷◌, ◌++◌, length, Option, Some, None}
+use Rattle.std.specs.Prelude.{nat_eq, nat_le, slice_get, if◌then◌else◌, ◌≡◌, ◌≢◌, ◌⊎◌, ℕ, ◌+◌, ◌^◌, ◌≤◌, min, Bool, true, false, ◌||◌, ◌==◌, List, [], ◌∷◌, ◌++◌, length, Option, Some, None}
 use Rattle.std.specs.List.{starts_with}
+use Rattle.std.specs.Str.Parse.{digits_value}
 use Rattle.bas_lex.specs.declared.front.Front.{Front}
 use Rattle.bas_lex.specs.declared.name.NameEnd.{NameEnd}
-use Rattle.bas_lex.specs.declared.number.Digits.{Digits}
 use Rattle.bas_lex.specs.declared.number.Radix.{Radix}
-use Rattle.bas_lex.specs.declared.number.TheConstants.{VALUE_CAP}
+use Rattle.bv_num.specs.declared.value.DigitRun.{DigitRun}
+use Rattle.bv_num.specs.Digits.{is_digit}
 use Rattle.bas_lex.specs.declared.symbol.TheConstants.{NO_SUFFIX}
 use Rattle.bas_lex.specs.declared.symbol.SymKind.{SymKind}
 use Rattle.bas_lex.specs.declared.symbol.SymKind.TheVariants as kinds
 use Rattle.bas_lex.specs.declared.text.Part.{Part}
 use Rattle.bas_lex.specs.declared.text.Part.TheVariants as parts
-use Rattle.bas_lex.specs.Bytes.{quotation_mark, dollar_sign, percent_sign, open_bracket, is_in_name, Each, NotFirst}
-use Rattle.bas_lex.specs.Kinds.{IsSuffix, suffix_bytes, bracket_bytes, IsPlainName, IsSystemName, IsName, IsCall, IsLabel, IsSingle, IsPair, IsNumber, is_digit, value_of, doubled, IsText, IsLineRef, signs}
+use Rattle.bv_token.specs.Names.{is_in_name}
+use Rattle.bas_lex.specs.Bytes.{quotation_mark, dollar_sign, percent_sign, open_bracket, Each, NotFirst}
+use Rattle.bas_lex.specs.Kinds.{IsSuffix, suffix_bytes, bracket_bytes, IsPlainName, IsSystemName, IsName, IsCall, IsLabel, IsSingle, IsPair, IsNumber, base, doubled, IsText, IsLineRef, signs}
 use Rattle.bas_lex.specs.Cut.{Begins, Longest}
 
 -- the longest symbol at the front of a text, or that none begins there
@@ -127,11 +129,11 @@ pub record EndsLabel (text rest : List ℕ) : Type 0 where
 abbrev pub NoLabelName : List ℕ → Type 0
 NoLabelName text = (name rest : List ℕ) (suffix : ℕ) → IsName suffix false name → text ≡ name ++ rest → ⊥
 
--- The digits that stand first, their number, and their value, which counts only below the cap.
-pub record HasDigits (radix : Radix) (text : List ℕ) (digits : Digits) : Type 0 where
+-- The digits that stand first, their number, and their value, which counts only below 2^32.
+pub record HasDigits (radix : Radix) (text : List ℕ) (digits : DigitRun) : Type 0 where
   pub rest : List ℕ
-  pub run : IsRun (is_digit radix) text rest
-  pub value : digits.value ≡ min (value_of radix run.run) VALUE_CAP
+  pub run : IsRun (is_digit (base radix)) text rest
+  pub value : digits.value ≡ min (digits_value (base radix) run.run) (2 ^ 32)
   pub count : digits.count ≡ length run.run
 
 -- a quotation mark

@@ -1,3 +1,4 @@
+//! The front of a text: its first byte, and a symbol there.
 ghost use Rattle.std.specs.Prelude.{◌≡◌, [], ◌∷◌, MatchOption};
 
 use crate::symbol::SymKind;

@@ -1,3 +1,4 @@
+//! The laws of symbols, which take no step.
 ghost use Rattle.std.specs.Prelude.{◌≡◌, ◌⊎◌, ℕ, Bool, List};
 ghost use Rattle.std.specs.List.{enumerate_from};
 ghost use Rattle.bas_lex.specs.declared.symbol.Sym.{Sym as Symbol};

@@ -1,28 +1,14 @@
+//! Names, calls and labels.
 ghost use Rattle.std.specs.Prelude.{◌≡◌, ℕ, List, ◌∷◌, MatchOption, true};
-ghost use Rattle.bas_lex.specs.Bytes.{at_sign, percent_sign, point, begins_name, is_in_name, NotFirst};
+ghost use Rattle.bv_token.specs.Names.{begins_name, is_in_name};
+ghost use Rattle.bas_lex.specs.Bytes.{at_sign, percent_sign, point, NotFirst};
 ghost use Rattle.bas_lex.specs.Kinds.{call_token};
 ghost use Rattle.bas_lex.specs.Scan.{Best, Names, SystemNames, Calls, Labels, IsRun, SplitsSuffix, SplitsBracket, SplitsPercent, EndsName, NoLabelName, EndsLabel};
 
 use crate::front::Front;
 use crate::symbol::{NO_SUFFIX, SymKind};
 use crate::token::call_token;
-
-/// The pound sign, in Acorn's character set.
-const POUND_SIGN: u8 = 0x60;
-
-/// Whether a name may begin with the byte: a letter, `_` or the pound sign.
-pub fn begins_name(byte: u8) -> bool
-    ensures { result ≡ begins_name byte }
-{
-    byte.is_ascii_alphabetic() || byte == b'_' || byte == POUND_SIGN
-}
-
-/// Whether a name may go on with the byte: one that may begin it, or a digit.
-fn is_in_name(byte: u8) -> bool
-    ensures { result ≡ is_in_name byte }
-{
-    begins_name(byte) || byte.is_ascii_digit()
-}
+use bv_token::{begins_name, is_in_name};
 
 fn strip_letter(text: &[u8]) -> Option<(u8, &[u8])>
     ensures { MatchOption result (NotFirst is_in_name text.now)

@@ -1,3 +1,4 @@
+//! The cut of a text into symbols, piece by piece.
 ghost use Rattle.std.specs.Prelude.{◌≡◌, ◌≢◌, ◌≤◌, ◌+◌, ◌∷◌, length, IfOk, IfErr};
 ghost use Rattle.std.specs.List.{AllByRecursion};
 ghost use Rattle.bas_lex.specs.Kinds.{IsSymbol};
@@ -6,7 +7,7 @@ ghost use Rattle.bas_lex.specs.Scan.{Best};
 ghost use Rattle.bas_lex.specs.Next.{IsNext, TakesPiece, ExplainsPiece};
 
 use crate::front::{Front, split_byte};
-use crate::name::{begins_name, read_call, read_label, read_name, read_system_name};
+use crate::name::{read_call, read_label, read_name, read_system_name};
 use crate::number::{Radix, read_number};
 use crate::sign::read_sign;
 use crate::sign_numbers::{CLOSE_SQUARE, COLON, OPEN_SQUARE};
@@ -14,7 +15,7 @@ use crate::symbol::{LexError, Mode, Sym, SymKind, SymbolRun};
 use crate::text::read_text;
 use crate::token::{read_line_ref, read_token};
 use bv_base::LONGEST_TEXT;
-use bv_token::{DATA, FN, LINE_REFERENCE, OTHERWISE, PROC, REM};
+use bv_token::{DATA, FN, LINE_REFERENCE, OTHERWISE, PROC, REM, begins_name};
 use sqlite_items::Items;
 use std::alloc::Global;
 

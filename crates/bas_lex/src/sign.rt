@@ -1,3 +1,4 @@
+//! The signs.
 ghost use Rattle.std.specs.Prelude.{◌≡◌, ◌<◌, [], length, map, slice_index_or};
 ghost use Rattle.bas_lex.specs.Scan.{Best, Signs, longer_of, longer_sign};
 

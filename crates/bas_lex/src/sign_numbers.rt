@@ -31,10 +31,10 @@ pub const GREATER_OR_EQUAL: u8 = 8;
 pub const SHIFT_LEFT: u8 = 9;
 
 /// `>>`
-pub const SHIFT_RIGHT_SIGNED: u8 = 10;
+pub const SHIFT_RIGHT: u8 = 10;
 
 /// `>>>`
-pub const SHIFT_RIGHT: u8 = 11;
+pub const SHIFT_RIGHT_LOGICAL: u8 = 11;
 
 /// `+=`
 pub const PLUS_EQUALS: u8 = 12;

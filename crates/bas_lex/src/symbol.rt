@@ -1,3 +1,4 @@
+//! What a symbol is.
 use sqlite_items::Items;
 use std::alloc::{AllocError, AllocFailed};
 

@@ -1,3 +1,4 @@
+//! Strings.
 ghost use Rattle.std.specs.Prelude.{◌≡◌, ◌∷◌};
 ghost use Rattle.bas_lex.specs.Bytes.{quotation_mark};
 ghost use Rattle.bas_lex.specs.Scan.{Best, Texts, IsPart, ClosesLast};

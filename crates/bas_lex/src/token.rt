@@ -1,3 +1,4 @@
+//! Keywords and references to lines.
 ghost use Rattle.std.specs.Prelude.{◌≡◌, ◌≢◌, ◌∷◌, true, is_some};
 ghost use Rattle.bv_token.specs.Tokens.{begins_pair, keyword_of};
 ghost use Rattle.bas_lex.specs.Kinds.{call_token};

@@ -20,3 +20,5 @@ mod small_ram;
 mod symbols;
 #[cfg(test)]
 mod tokens;
+#[cfg(test)]
+mod words;

@@ -1,8 +1,9 @@
 //! Tables of values that the language itself gives.
 
 use bv_num::{
-    DIVISION_BY_ZERO, ShiftKind, TOO_BIG, abs, add, data_value, decimal, div, hex, mul, neg, rem,
-    shift, sub, value_of,
+    ShiftKind, abs, add, and, data_value, decimal, digit_run, div, eor, equal, greater,
+    greater_or_equal, hex, less, less_or_equal, mul, neg, not, not_equal, or, rem, shift, sub,
+    value_of,
 };
 
 /// The calls of arithmetic; the last two take one number.
@@ -30,27 +31,27 @@ fn answer(call: Call, a: i32, b: i32) -> Result<i32, u8> {
 }
 
 const ARITHMETIC: [(Call, i32, i32, Result<i32, u8>); 22] = [
-    (Call::Add, 2147483647, 1, Err(TOO_BIG)),
+    (Call::Add, 2147483647, 1, Err(20)),
     (Call::Add, -2147483648, 2147483647, Ok(-1)),
-    (Call::Sub, -2147483648, 1, Err(TOO_BIG)),
-    (Call::Sub, 0, -2147483648, Err(TOO_BIG)),
+    (Call::Sub, -2147483648, 1, Err(20)),
+    (Call::Sub, 0, -2147483648, Err(20)),
     (Call::Mul, 65536, -32768, Ok(-2147483648)),
-    (Call::Mul, 65536, 32768, Err(TOO_BIG)),
-    (Call::Mul, 65536, 65536, Err(TOO_BIG)),
+    (Call::Mul, 65536, 32768, Err(20)),
+    (Call::Mul, 65536, 65536, Err(20)),
     (Call::Div, 7, 2, Ok(3)),
     (Call::Div, -7, 2, Ok(-3)),
     (Call::Div, 7, -2, Ok(-3)),
     (Call::Div, -7, -2, Ok(3)),
-    (Call::Div, -2147483648, -1, Err(TOO_BIG)),
-    (Call::Div, 5, 0, Err(DIVISION_BY_ZERO)),
+    (Call::Div, -2147483648, -1, Err(20)),
+    (Call::Div, 5, 0, Err(18)),
     (Call::Rem, -7, 2, Ok(-1)),
     (Call::Rem, 7, -2, Ok(1)),
     (Call::Rem, -2147483648, -1, Ok(0)),
-    (Call::Rem, -2147483648, 0, Err(DIVISION_BY_ZERO)),
+    (Call::Rem, -2147483648, 0, Err(18)),
     (Call::Neg, 5, 0, Ok(-5)),
-    (Call::Neg, -2147483648, 0, Err(TOO_BIG)),
+    (Call::Neg, -2147483648, 0, Err(20)),
     (Call::Abs, -5, 0, Ok(5)),
-    (Call::Abs, -2147483648, 0, Err(TOO_BIG)),
+    (Call::Abs, -2147483648, 0, Err(20)),
     (Call::Abs, 2147483647, 0, Ok(2147483647)),
 ];
 
@@ -66,6 +67,42 @@ fn answers_all() -> bool {
 #[test]
 fn computes(rt: HostRuntime) {
     assert!(rt; answers_all());
+}
+
+/// Pairs of numbers with their AND, OR and EOR, and with `=`, `<>`, `<`, `>`, `<=` and `>=` of them.
+const BITS_AND_COMPARISONS: [(i32, i32, [i32; 3], [i32; 6]); 5] = [
+    (12, 10, [8, 14, 6], [0, -1, 0, -1, 0, -1]),
+    (-1, 5, [5, -1, -6], [0, -1, -1, 0, -1, 0]),
+    (-8, -8, [-8, -8, 0], [-1, 0, 0, 0, -1, -1]),
+    (-2147483648, 2147483647, [0, -1, -1], [0, -1, -1, 0, -1, 0]),
+    (
+        0,
+        -2147483648,
+        [0, -2147483648, -2147483648],
+        [0, -1, 0, -1, 0, -1],
+    ),
+];
+
+fn bits_and_comparisons_all() -> bool {
+    for (a, b, bits, comparisons) in BITS_AND_COMPARISONS {
+        let compared = [
+            equal(a, b),
+            not_equal(a, b),
+            less(a, b),
+            greater(a, b),
+            less_or_equal(a, b),
+            greater_or_equal(a, b),
+        ];
+        if [and(a, b), or(a, b), eor(a, b)] != bits || compared != comparisons {
+            return false;
+        }
+    }
+    not(0) == -1 && not(-2147483648) == 2147483647 && not(5) == -6
+}
+
+#[test]
+fn bits_and_comparisons(rt: HostRuntime) {
+    assert!(rt; bits_and_comparisons_all());
 }
 
 const SHIFTS: [(ShiftKind, i32, i32, i32); 16] = [
@@ -105,6 +142,12 @@ fn is_decimal(n: i32, wanted: &[u8]) -> bool {
     decimal(n).as_slice() == wanted
 }
 
+/// The text stands at the front of a number's digits, and zeros behind it.
+fn has_its_text_in_front() -> bool {
+    let digits = decimal(-70);
+    digits.bytes == [b'-', b'7', b'0', 0, 0, 0, 0, 0, 0, 0, 0] && digits.len == 3
+}
+
 fn is_hex(n: u32, wanted: &[u8]) -> bool {
     hex(n).as_slice() == wanted
 }
@@ -125,6 +168,7 @@ fn writes_hex() -> bool {
 fn writes(rt: HostRuntime) {
     assert!(rt; writes_decimal());
     assert!(rt; writes_hex());
+    assert!(rt; has_its_text_in_front());
 }
 
 const TEXTS: [(&[u8], Result<i32, u8>, Result<i32, u8>); 16] = [
@@ -132,15 +176,15 @@ const TEXTS: [(&[u8], Result<i32, u8>, Result<i32, u8>); 16] = [
     (b"  +12x", Ok(12), Ok(12)),
     (b"-2147483648", Ok(-2147483648), Ok(-2147483648)),
     (b"2147483647", Ok(2147483647), Ok(2147483647)),
-    (b"2147483648", Err(TOO_BIG), Err(TOO_BIG)),
-    (b"-2147483649", Err(TOO_BIG), Err(TOO_BIG)),
-    (b"4294967297", Err(TOO_BIG), Err(TOO_BIG)),
+    (b"2147483648", Err(20), Err(20)),
+    (b"-2147483649", Err(20), Err(20)),
+    (b"4294967297", Err(20), Err(20)),
     (b"- 5", Ok(0), Ok(0)),
     (b"--5", Ok(0), Ok(0)),
     (b"&ff", Ok(0), Ok(255)),
     (b"&FFFFFFFF", Ok(0), Ok(-1)),
     (b"&7fFFfFfF!", Ok(0), Ok(2147483647)),
-    (b"&100000000", Ok(0), Err(TOO_BIG)),
+    (b"&100000000", Ok(0), Err(20)),
     (b"& 1", Ok(0), Ok(0)),
     (b"&G", Ok(0), Ok(0)),
     (b" &1", Ok(0), Ok(0)),
@@ -159,11 +203,25 @@ fn reads_all() -> bool {
 fn reads_long_texts() -> bool {
     let mut text = [b'0'; 301];
     text[300] = b'7';
-    value_of(&text) == Ok(7) && value_of(&[b'9'; 1000]) == Err(TOO_BIG)
+    value_of(&text) == Ok(7) && value_of(&[b'9'; 1000]) == Err(20)
+}
+
+/// All the digits of a base that stand first are counted, and a value past 32 bits is 2^32.
+fn counts_digits() -> bool {
+    let short = digit_run(10, b"0065279:9");
+    let long = digit_run(16, b"100000000fG");
+    let none = digit_run(2, b"2");
+    short.value == 65279
+        && short.count == 7
+        && long.value == 4294967296
+        && long.count == 10
+        && none.value == 0
+        && none.count == 0
 }
 
 #[test]
 fn reads(rt: HostRuntime) {
     assert!(rt; reads_all());
     assert!(rt; reads_long_texts());
+    assert!(rt; counts_digits());
 }

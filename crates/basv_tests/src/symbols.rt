@@ -3,7 +3,7 @@
 use bas_lex::sign_numbers::{
     CLOSE_SQUARE, COLON, COMMA, DOLLAR, EQUALS, GREATER, GREATER_OR_EQUAL, LESS, LESS_OR_EQUAL,
     MINUS_EQUALS, NOT_EQUAL, OPEN_ROUND, OPEN_SQUARE, PLUS, PLUS_EQUALS, SEMICOLON, SHIFT_LEFT,
-    SHIFT_RIGHT, SHIFT_RIGHT_SIGNED,
+    SHIFT_RIGHT, SHIFT_RIGHT_LOGICAL,
 };
 use bas_lex::{LexError, NO_SUFFIX, Sym, SymKind, symbols};
 use bv_base::LONGEST_TEXT;
@@ -76,8 +76,8 @@ fn texts_are_cut(rt: HostRuntime) -> Result<(), Fail> {
     assert!(rt; cuts(alloc, b"\xa41x$(\xf2_\xa4 a%$", false, &[off(call(true, true), 0, 5), off(call(false, false), 5, 7), off(Token(0xa4), 7, 8), off(name(b'%', false), 9, 11), off(Mark(DOLLAR), 11, 12)], false));
     assert!(rt; cuts(alloc, b"\x7f\xcc\xc8\x98\xe5\x8dTJ@,", false, &[off(Token(0x7f), 0, 1), off(Token(0xcc), 1, 2), off(Token(0xc898), 2, 4), off(Token(0xe5), 4, 5), off(LineRef(10), 5, 9), off(Mark(COMMA), 9, 10)], false));
     assert!(rt; cuts(alloc, b":\xdc", false, &[off(Mark(COLON), 0, 1), off(Token(0xdc), 1, 2), off(Tail, 2, 2)], false));
-    assert!(rt; cuts(alloc, b">>>>= <> <<+=-=+ =>>", false, &[off(Mark(SHIFT_RIGHT), 0, 3), off(Mark(GREATER_OR_EQUAL), 3, 5), off(Mark(NOT_EQUAL), 6, 8), off(Mark(SHIFT_LEFT), 9, 11),
-        off(Mark(PLUS_EQUALS), 11, 13), off(Mark(MINUS_EQUALS), 13, 15), off(Mark(PLUS), 15, 16), off(Mark(EQUALS), 17, 18), off(Mark(SHIFT_RIGHT_SIGNED), 18, 20)], false));
+    assert!(rt; cuts(alloc, b">>>>= <> <<+=-=+ =>>", false, &[off(Mark(SHIFT_RIGHT_LOGICAL), 0, 3), off(Mark(GREATER_OR_EQUAL), 3, 5), off(Mark(NOT_EQUAL), 6, 8), off(Mark(SHIFT_LEFT), 9, 11),
+        off(Mark(PLUS_EQUALS), 11, 13), off(Mark(MINUS_EQUALS), 13, 15), off(Mark(PLUS), 15, 16), off(Mark(EQUALS), 17, 18), off(Mark(SHIFT_RIGHT), 18, 20)], false));
     assert!(rt; cuts(alloc, b"><=<\xf4 \"a", false, &[off(Mark(GREATER), 0, 1), off(Mark(LESS_OR_EQUAL), 1, 3), off(Mark(LESS), 3, 4), off(Token(0xf4), 4, 5), off(Tail, 5, 8)], false));
     Ok(())
 }

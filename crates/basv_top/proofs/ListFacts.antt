@@ -13,7 +13,7 @@ use Rattle.bas_compile.specs.declared.refusal.Which.TheVariants as limits
 use Rattle.basv_top.specs.declared.status.Status.TheVariants as statuses
 use Rattle.basv_top.specs.Ending as endings
 use Rattle.basv_top.specs.Ending.{Ending, status_of, refusal_status, long_file}
-use Rattle.basv_top.specs.Listings.{listings}
+use Rattle.lister.specs.Listings.{listings}
 use Rattle.basv_top.specs.Seen.{SeenShelf, SeenSink, Silent, Same}
 use Rattle.basv_top.specs.Taking.{IsContent, CannotRead, TakeFails, Takes}
 use Rattle.basv_top.specs.ListCommand.{Unlistable, BytesEndList, EndsList, Lists}

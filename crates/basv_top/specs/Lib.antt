@@ -3,7 +3,6 @@ pub mod Meant
 pub mod Ending
 pub mod Seen
 pub mod Taking
-pub mod Listings
 pub mod ListCommand
 pub mod CompileCommand
 pub mod RunCommand

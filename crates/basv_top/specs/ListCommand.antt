@@ -14,7 +14,7 @@ use Rattle.basv_top.specs.declared.status.Status.TheVariants as statuses
 use Rattle.basv_top.specs.Ending.{Ending, Done, Usage, Refused, ReadFault, WriteFault, NotImage, Ran, refusal_status, long_file}
 use Rattle.basv_top.specs.Seen.{SeenShelf, SeenSink, Silent, Same}
 use Rattle.basv_top.specs.Taking.{IsContent, CannotRead, TakeFails, Takes}
-use Rattle.basv_top.specs.Listings.{listings}
+use Rattle.lister.specs.Listings.{listings}
 
 -- The bytes of a file are refused by `list` for this reason: they are too many, or not the records of lines.
 abbrev pub Unlistable : List ℕ → Refusal → Type 0

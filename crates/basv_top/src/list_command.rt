@@ -1,31 +1,18 @@
 //! The command `list FILE`.
-ghost use Rattle.std.specs.Prelude.{◌≡◌, ◌≤◌, length, IfOk};
+ghost use Rattle.std.specs.Prelude.{◌≤◌, length};
 ghost use Rattle.bv_base.specs.Limits.{file_bytes};
 ghost use Rattle.basv_top.specs.Ending.{told, ended};
 ghost use Rattle.basv_top.specs.ListCommand.{BytesEndList, EndsList};
-ghost use Rattle.basv_top.specs.Listings.{listings};
 ghost use Rattle.basv_top.specs.Seen.{Same, seen_shelf, seen_sink};
 
 use crate::ending::Ending;
 use crate::taking::take_within;
 use bas_compile::LONG_FILE;
-use bv_base::{FILE_BYTES, NoMemory};
+use bv_base::FILE_BYTES;
 use bv_io::{Shelf, Sink};
-use lister::list_line;
+use lister::list_lines;
 use std::alloc::Global;
-use token_file::{Line, read_file};
-
-/// The listing of every line, in order.
-fn list_lines(alloc: Global, lines: &[Line]) -> Result<Vec<u8>, NoMemory>
-    ensures { IfOk result (λ text. text.items ≡ listings lines.now) }
-{
-    let mut text = Vec::new(alloc);
-    for line in lines {
-        let listing = list_line(alloc, line)?;
-        text.extend_from_slice(listing.as_slice())?;
-    }
-    Ok(text)
-}
+use token_file::read_file;
 
 /// Lists the lines that the bytes of a file are. The whole text is made before its first byte is written.
 fn list_bytes<'a, O: Sink>(alloc: Global, bytes: &[u8], out: &mut O) -> Result<(), Ending<'a>>

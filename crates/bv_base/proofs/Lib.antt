@@ -1,2 +1,4 @@
 pub mod Zeros
 pub mod Words
+pub mod Lists
+pub mod Computed

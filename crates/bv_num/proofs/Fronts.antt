@@ -1,11 +1,12 @@
--- The value of the digits that begin a text, up to a limit.
+-- The digits that begin a text: their value up to a limit, and their number.
 use Rattle.std.proofs.Common.{◌≡◌, ℕ, ◌+◌, ◌*◌, ◌<◌, ◌≤◌, min, cond, lt-ltb, List, [], ◌∷◌, length, drop, get_or, inl, inr, refl, sym, ap, ◌∙◌, arith}
-use Rattle.std.specs.Char.{digit_value, is_digit}
+use Rattle.std.specs.Char.{digit_value}
 use Rattle.std.specs.Str.Parse.{digits_value_after}
 use Rattle.std.proofs.lemmas.List.{at_drop_more}
 use Rattle.std.proofs.lemmas.List.Sums.{take_while-cons}
 use Rattle.std.proofs.lemmas.Bool.{cases_lt}
 use Rattle.std.proofs.Math.Nat.{le-mul_of_pos_right}
+use Rattle.bv_num.specs.Digits.{is_digit}
 use Rattle.bv_num.specs.Value.{front_digits, front_value}
 
 -- the value of the digits that begin a text, behind those with this value, up to a limit
@@ -38,20 +39,34 @@ capped limit base value (d ∷ ds) some =
 front_more : (limit base value b : ℕ) (rest : List ℕ) → 0 < base → digit_value b < base → capped_front limit base (min (value * base + digit_value b) limit) rest ≡ capped_front limit base value (b ∷ rest)
 front_more limit base value b rest some is =
     capped limit base (value * base + digit_value b) (front_digits base rest) some
-    ∙ ap (λ ds. min (digits_value_after base value ds) limit) (sym (take_while-cons (λ c. is_digit c base) b rest ∙ ap (λ t. cond t (b ∷ front_digits base rest) []) (lt-ltb (digit_value b) base is)))
+    ∙ ap (λ ds. min (digits_value_after base value ds) limit) (sym (take_while-cons (is_digit base) b rest ∙ ap (λ t. cond t (b ∷ front_digits base rest) []) (lt-ltb (digit_value b) base is)))
+
+-- What the loop knows at a place: the value of the digits before it up to a limit, with which those from there on make up
+-- the whole, and that all bytes before it are digits.
+pub record IsRead (limit base : ℕ) (text : List ℕ) (value at count : ℕ) : Type 0 where
+  pub low : value ≤ limit
+  pub whole : capped_front limit base value (drop at text) ≡ min (front_value base text) limit
+  pub counted : count ≡ at
+  pub row : at + length (front_digits base (drop at text)) ≡ length (front_digits base text)
+
+pub front_start : (limit base : ℕ) (text : List ℕ) → IsRead limit base text 0 0 0
+unfolding front_value
+front_start limit base text = record { low = omega arith; whole = refl; counted = refl; row = omega arith }
+
+digits_cons : (base b : ℕ) (rest : List ℕ) → digit_value b < base → front_digits base (b ∷ rest) ≡ b ∷ front_digits base rest
+digits_cons base b rest is = take_while-cons (is_digit base) b rest ∙ ap (λ t. cond t (b ∷ front_digits base rest) []) (lt-ltb (digit_value b) base is)
 
 -- a step of the loop
-pub front_step : (limit base value at b next d : ℕ) (text : List ℕ) (whole : ℕ) → 2 ≤ base → at < length text → b ≡ get_or text at 0 → digit_value b < base → d ≡ digit_value b → next ≡ min (value * base + d) limit
-    → capped_front limit base value (drop at text) ≡ whole → (next ≤ limit) × (capped_front limit base next (drop (at + 1) text) ≡ whole)
-front_step limit base value at b next d text whole least within is_b is_digit is_d is_next so_far = (
-  omega (arith, is_next),
-  ap (λ v. capped_front limit base v (drop (at + 1) text)) (is_next ∙ ap (λ n. min (value * base + n) limit) is_d)
+pub front_step : (limit base value at count b next d : ℕ) (text : List ℕ) → 2 ≤ base → at < length text → b ≡ get_or text at 0 → digit_value b < base → d ≡ digit_value b → next ≡ min (value * base + d) limit
+    → IsRead limit base text value at count → IsRead limit base text next (at + 1) (count + 1)
+front_step limit base value at count b next d text least within is_b is_digit is_d is_next so_far = record {
+  low = omega (arith, is_next);
+  whole =
+      ap (λ v. capped_front limit base v (drop (at + 1) text)) (is_next ∙ ap (λ n. min (value * base + n) limit) is_d)
       ∙ front_more limit base value b (drop (at + 1) text) (omega (arith, least)) is_digit
       ∙ ap (λ n. capped_front limit base value (n ∷ drop (at + 1) text)) is_b
       ∙ sym (at_drop_more (capped_front limit base value) text at 0 within)
-      ∙ so_far,
-)
-
-pub front_start : (limit base : ℕ) (text : List ℕ) → capped_front limit base 0 text ≡ min (front_value base text) limit
-unfolding front_value
-front_start limit base text = refl
+      ∙ so_far.whole;
+  counted = omega (arith, so_far.counted);
+  row = omega (arith, so_far.row, at_drop_more (λ l. length (front_digits base l)) text at 0 within, ap (λ n. length (front_digits base (n ∷ drop (at + 1) text))) is_b, ap length (digits_cons base b (drop (at + 1) text) is_digit));
+}

@@ -4,9 +4,8 @@ use Rattle.std.specs.Int.{w32, w64, cast_signed, cast_unsigned}
 use Rattle.std.proofs.lemmas.Int.{to_z-of_z, fits_signed_mul, fits_signed_from_abs, quot_is, rem_is}
 use Rattle.std.proofs.Math.Dec.{eqb-suc-zero}
 use Rattle.std.proofs.Math.Nat.{div-le_self}
-use Rattle.bv_num.specs.declared.arithmetic.TheConstants.{DIVISION_BY_ZERO}
 use Rattle.bv_num.proofs.OperationLaws.{quotient_is, remainder_is}
-use Rattle.bv_num.specs.Operation.{in_range, quotient, remainder, operation, Divide, Remainder}
+use Rattle.bv_num.specs.Operation.{division_by_zero, in_range, quotient, remainder, operation, Divide, Remainder}
 
 abs_of_neg : (n : ℕ) → unsigned_abs (neg_ℤ (pos n)) ≡ n
 abs_of_neg zero = refl
@@ -28,10 +27,10 @@ fits_wide : (a x : ℤ) → FitsSigned w32 a → x ≡ cast_signed w32 (cast_uns
 fits_wide a x fits is = fits_signed_from_abs w64 x (omega (arith, abs-le a fits, ap unsigned_abs (is ∙ to_z-of_z w32 a fits)))
 
 -- an operation that doesn't divide by zero
-divided : (b : ℤ) (z : ℤ) → cast_unsigned w32 b ≢ 0 → in_range z ≡ (if unsigned_abs b == 0 then Err DIVISION_BY_ZERO else in_range z)
+divided : (b : ℤ) (z : ℤ) → cast_unsigned w32 b ≢ 0 → in_range z ≡ (if unsigned_abs b == 0 then Err division_by_zero else in_range z)
 divided (pos zero) z other = absurd (other refl)
-divided (pos (suc b)) z other = ap (λ t. if t then Err DIVISION_BY_ZERO else in_range z) (sym (eqb-suc-zero b))
-divided (negsuc b) z other = ap (λ t. if t then Err DIVISION_BY_ZERO else in_range z) (sym (eqb-suc-zero b))
+divided (pos (suc b)) z other = ap (λ t. if t then Err division_by_zero else in_range z) (sym (eqb-suc-zero b))
+divided (negsuc b) z other = ap (λ t. if t then Err division_by_zero else in_range z) (sym (eqb-suc-zero b))
 
 pub multiplies_wide : (a b x y : ℤ) (r : Result ℤ ℕ) → FitsSigned w32 a → FitsSigned w32 b
     → x ≡ cast_signed w32 (cast_unsigned w32 a) → y ≡ cast_signed w32 (cast_unsigned w32 b)

@@ -6,9 +6,8 @@ use Rattle.std.specs.List.{AllByRecursion}
 use Rattle.std.specs.Str.Parse.{digits_value}
 use Rattle.std.proofs.lemmas.Bool.{ne_eqb}
 use Rattle.std.proofs.lemmas.List.Sums.{take_while-cons}
-use Rattle.bv_num.specs.declared.arithmetic.TheConstants.{TOO_BIG}
-use Rattle.bv_num.specs.Operation.{in_range, with_sign}
-use Rattle.bv_num.specs.Shift.{signed}
+use Rattle.bv_num.specs.Operation.{too_big, in_range, with_sign}
+use Rattle.bv_num.specs.Bits.{signed}
 use Rattle.bv_num.specs.Digits.{digits, decimal_digits, decimal_text, hex_digits}
 use Rattle.bv_num.specs.Value.{behind_spaces, behind_sign, begins_with, front_digits, front_value, signed_value, value_of, in_word, data_value}
 use Rattle.bv_num.proofs.OperationLaws.{in_range-fits}
@@ -56,4 +55,4 @@ value_of-decimal_text (negsuc n) fits =
 -- READ of & and a number's hexadecimal digits is the number, taken as a signed one
 pub data_value-hex_digits : (n : ℕ) → n < 2 ^ 32 → data_value (38 ∷ hex_digits n) ≡ Ok (signed n)
 data_value-hex_digits n small =
-    ap in_word (front_value-digits 16 n (omega arith) (omega arith)) ∙ ap (λ t. if t then Ok (signed n) else Err TOO_BIG) (lt-ltb n 4294967296 small)
+    ap in_word (front_value-digits 16 n (omega arith) (omega arith)) ∙ ap (λ t. if t then Ok (signed n) else Err too_big) (lt-ltb n 4294967296 small)

@@ -6,7 +6,8 @@ use Rattle.std.proofs.lemmas.Nat.{pow-add, mod_low}
 use Rattle.std.proofs.Math.Nat.{mul_assoc, div-eq_of_lt, pow-le-pow_right}
 use Rattle.bv_num.specs.declared.shifts.ShiftKind.{ShiftKind}
 use Rattle.bv_num.specs.declared.shifts.ShiftKind.TheVariants.{Left, Right, RightLogical}
-use Rattle.bv_num.specs.Shift.{pattern, signed, floor_quotient, shifted}
+use Rattle.bv_num.specs.Bits.{pattern, signed}
+use Rattle.bv_num.specs.Shift.{floor_quotient, shifted}
 
 -- what moves up by 32 places or more is gone
 moved_out : (p k : ℕ) → 32 ≤ k → p * 2 ^ k % 2 ^ 32 ≡ 0

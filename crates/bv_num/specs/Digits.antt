@@ -1,6 +1,12 @@
--- The digits of numbers, as PRINT and the listing write them.
-use Rattle.std.specs.Prelude.{ℕ, suc, ◌+◌, ◌/◌, ◌%◌, List, [], ◌∷◌, ◌++◌, map, nat_lt, ℤ, pos, negsuc, if◌then◌else◌}
+-- The digits of numbers: which bytes they are, and those that PRINT and the listing write. A digit's value is std's
+-- `digit_value`: 0 to 9 for `0` to `9`, and from 10 on for letters of either case.
+use Rattle.std.specs.Prelude.{ℕ, suc, ◌+◌, ◌/◌, ◌%◌, Bool, List, [], ◌∷◌, ◌++◌, map, nat_lt, ℤ, pos, negsuc, if◌then◌else◌}
+use Rattle.std.specs.Char.{digit_value}
 use Rattle.std.specs.Int.Digits.{digits_of}
+
+-- whether a byte is a digit of a base of at most 36
+abbrev pub is_digit : ℕ → ℕ → Bool
+is_digit base byte = nat_lt (digit_value byte) base
 
 -- the byte of a digit below 16: 0 to 9, then A to F
 abbrev pub digit_byte : ℕ → ℕ

@@ -1,3 +1,4 @@
+pub mod Bits
 pub mod Operation
 pub mod Shift
 pub mod Digits

@@ -1,16 +1,8 @@
 -- The shifts of BBC BASIC V (BBC BASIC Reference Manual, operators), by products and quotients of powers of two.
 use Rattle.std.specs.Prelude.{ℕ, ◌*◌, ◌/◌, ◌%◌, ◌^◌, ℤ, pos, negsuc}
-use Rattle.std.specs.Int.{w32, cast_signed, cast_unsigned}
 use Rattle.bv_num.specs.declared.shifts.ShiftKind.{ShiftKind}
 use Rattle.bv_num.specs.declared.shifts.ShiftKind.TheVariants.{Left, Right, RightLogical}
-
--- the 32 bits of a signed number, as a number below 2^32: a negative one counts from 2^32 down
-abbrev pub pattern : ℤ → ℕ
-pattern z = cast_unsigned w32 z
-
--- a number below 2^32 as the signed one with the same 32 bits: from 2^31 on it counts from 2^32 down
-abbrev pub signed : ℕ → ℤ
-signed n = cast_signed w32 n
+use Rattle.bv_num.specs.Bits.{pattern, signed}
 
 -- division by a positive number, rounded down
 abbrev pub floor_quotient : ℤ → ℕ → ℤ

@@ -1,20 +1,19 @@
 -- The numbers that texts spell: VAL, and what READ makes of an item of DATA (BBC BASIC Reference Manual, VAL and READ).
 -- That hexadecimal digits may be of either case is this project's own.
 use Rattle.std.specs.Prelude.{ℕ, ◌^◌, ◌==◌, Bool, false, ◌||◌, List, [], ◌∷◌, drop, nat_lt, ℤ, Result, Ok, Err, if◌then◌else◌, take_while}
-use Rattle.std.specs.Char.{is_digit}
 use Rattle.std.specs.Str.Parse.{digits_value}
-use Rattle.bv_num.specs.declared.arithmetic.TheConstants.{TOO_BIG}
-use Rattle.bv_num.specs.Operation.{in_range, with_sign}
-use Rattle.bv_num.specs.Shift.{signed}
+use Rattle.bv_num.specs.Digits.{is_digit}
+use Rattle.bv_num.specs.Operation.{too_big, in_range, with_sign}
+use Rattle.bv_num.specs.Bits.{signed}
 
 -- the text without the spaces that begin it
 abbrev pub behind_spaces : List ℕ → List ℕ
 behind_spaces [] = []
 behind_spaces (b ∷ bs) = if b == 32 then behind_spaces bs else b ∷ bs
 
--- the longest row of digits in a base that begins the text: 0 to 9, and letters of either case
+-- the longest row of digits of a base that begins the text
 abbrev pub front_digits : ℕ → List ℕ → List ℕ
-front_digits base text = take_while (λ b. is_digit b base) text
+front_digits base text = take_while (is_digit base) text
 
 -- the value of that row, which may have any length; 0 where it is empty
 unfoldable pub front_value : ℕ → List ℕ → ℕ
@@ -40,7 +39,7 @@ value_of text = in_range (signed_value (behind_spaces text))
 
 -- 32 bits taken as a signed number; a greater value is the error "number too big"
 abbrev pub in_word : ℕ → Result ℤ ℕ
-in_word n = if nat_lt n (2 ^ 32) then Ok (signed n) else Err TOO_BIG
+in_word n = if nat_lt n (2 ^ 32) then Ok (signed n) else Err too_big
 
 -- READ: behind `&`, as the first byte, hexadecimal digits of either case; else VAL
 abbrev pub data_value : List ℕ → Result ℤ ℕ

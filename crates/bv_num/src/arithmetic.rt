@@ -1,4 +1,5 @@
-ghost use Rattle.std.specs.Prelude.{◌≡◌, ◌+ℤ◌, ◌*ℤ◌, IfOk};
+//! Arithmetic on 32 bits with a sign, with the errors of its results.
+ghost use Rattle.std.specs.Prelude.{◌≡◌, ◌≤◌, ◌^◌, ◌+ℤ◌, ◌*ℤ◌, unsigned_abs, IfOk};
 ghost use Rattle.bv_num.specs.Operation.{in_range, quotient, operation, negated, magnitude, Add, Subtract, Multiply, Divide, Remainder};
 
 /// The error of DIV and MOD by zero.
@@ -7,11 +8,14 @@ pub const DIVISION_BY_ZERO: u8 = 18;
 /// The error of a result that is no 32-bit signed integer.
 pub const TOO_BIG: u8 = 20;
 
-/// An exact result as a 32-bit integer; `TOO_BIG` where it is none.
+/// An exact result as a 32-bit integer; `TOO_BIG` where it is none. It is compared once, moved up by 2^31, so that a
+/// compiler makes one addition and a jump on overflow of it.
 pub fn narrow(exact: i64) -> Result<i32, u8>
+    requires { unsigned_abs exact ≤ 2 ^ 62 }
     ensures { result ≡ in_range exact }
 {
-    if exact < i64::from(i32::MIN) || exact > i64::from(i32::MAX) {
+    let biased = (exact + 0x8000_0000).cast_unsigned();
+    if biased > 0xffff_ffff {
         return Err(TOO_BIG);
     }
     Ok(exact as i32)

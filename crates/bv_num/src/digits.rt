@@ -1,9 +1,11 @@
+//! The digits of numbers, as PRINT and the listing write them.
 ghost use Rattle.std.specs.Prelude.{◌≡◌, ◌≢◌, ◌≤◌, ◌<◌, ◌∷◌, [], length, slice_index};
 ghost use Rattle.std.specs.Fmt.{signed_decimal};
+ghost use Rattle.bv_num.specs.Bits.{signed};
 ghost use Rattle.bv_num.specs.Digits.{digit_byte, digits, decimal_text, hex_digits};
-ghost use Rattle.bv_num.specs.Shift.{signed};
 ghost use Rattle.bv_num.specs.Value.{value_of, data_value};
 
+use crate::growing::GrowingText;
 use std::marker::Model;
 
 /// The greatest number of bytes in a number's text: a minus sign and ten digits.
@@ -12,9 +14,10 @@ pub const LONGEST_NUMBER: usize = 11;
 /// The text of a number: its digits, highest first, with a minus sign before them where it is negative.
 #[derive(Clone, Copy, Debug, PartialEq, Eq)]
 pub struct Digits {
-    /// The text stands at the end, behind zeros.
-    bytes: [u8; LONGEST_NUMBER],
-    len: u8,
+    /// The text stands at the front, and zeros behind it.
+    pub bytes: [u8; LONGEST_NUMBER],
+    /// The number of the text's bytes.
+    pub len: u8,
 }
 
 impl Model for Digits {
@@ -34,29 +37,24 @@ impl Model for Digits {
 }
 
 impl Digits {
-    /// A text of one byte.
-    fn of_byte(byte: u8) -> Digits
-        ensures { result ≡ byte ∷ [] }
+    /// The digits of this text.
+    fn of_text(text: &[u8]) -> Digits
+        requires { length text.now ≤ LONGEST_NUMBER }
+        ensures { result ≡ text.now }
     {
         let mut bytes = [0; LONGEST_NUMBER];
-        bytes[LONGEST_NUMBER - 1] = byte;
-        Digits { bytes, len: 1 }
-    }
-
-    /// Adds a byte in front.
-    fn push_front(&mut self, byte: u8)
-        requires { length self.old < LONGEST_NUMBER }
-        ensures { self.new ≡ byte ∷ self.old }
-    {
-        self.len += 1;
-        self.bytes[LONGEST_NUMBER - usize::from(self.len)] = byte;
+        bytes[..text.len()].copy_from_slice(text);
+        Digits {
+            bytes,
+            len: text.len() as u8,
+        }
     }
 
     /// The bytes of the text.
     pub fn as_slice(&self) -> &[u8]
         ensures { result.now ≡ self.now }
     {
-        &self.bytes[LONGEST_NUMBER - usize::from(self.len)..]
+        &self.bytes[..usize::from(self.len)]
     }
 }
 
@@ -73,17 +71,29 @@ pub fn digit_byte(digit: u32) -> u8
 }
 
 /// The digits of a number in a base from 10 to 16.
-fn in_base(base: u32, n: u32) -> Digits
+fn in_base(base: u32, n: u32) -> GrowingText
     requires least { 10 ≤ base }
     requires greatest { base ≤ 16 }
     ensures value { result ≡ digits base n }
     ensures short { length result < LONGEST_NUMBER }
 {
-    let mut digits = Digits::of_byte(digit_byte(n % base));
+    let mut digits = GrowingText::of_byte(digit_byte(n % base));
     let mut rest = n / base;
     while rest > 0 {
         digits.push_front(digit_byte(rest % base));
         rest /= base;
+    }
+    digits
+}
+
+/// The decimal digits of a number, with its sign.
+fn with_sign(n: i32) -> GrowingText
+    ensures value { result ≡ decimal_text n }
+    ensures short { length result ≤ LONGEST_NUMBER }
+{
+    let mut digits = in_base(10, n.unsigned_abs());
+    if n < 0 {
+        digits.push_front(b'-');
     }
     digits
 }
@@ -95,11 +105,7 @@ pub fn decimal(n: i32) -> Digits
     ensures reading { value_of result ≡ Ok n }
     ensures short { length result ≤ LONGEST_NUMBER }
 {
-    let mut digits = in_base(10, n.unsigned_abs());
-    if n < 0 {
-        digits.push_front(b'-');
-    }
-    digits
+    Digits::of_text(with_sign(n).as_slice())
 }
 
 /// The hexadecimal text of a number's 32 bits, in upper case and without leading zeros, which READ reads back behind
@@ -110,5 +116,5 @@ pub fn hex(n: u32) -> Digits
     ensures reading { data_value (38 ∷ result) ≡ Ok (signed n) }
     ensures short { length result ≤ 8 }
 {
-    in_base(16, n)
+    Digits::of_text(in_base(16, n).as_slice())
 }

@@ -1,3 +1,4 @@
+//! The shifts of numbers.
 ghost use Rattle.std.specs.Prelude.{◌≡◌};
 ghost use Rattle.bv_num.specs.Shift.{shifted};
 

@@ -1,5 +1,6 @@
-ghost use Rattle.std.specs.Prelude.{◌≡◌, ◌≤◌, min};
-ghost use Rattle.bv_num.specs.Value.{behind_spaces, behind_sign, front_value, value_of, data_value};
+//! The numbers that texts spell.
+ghost use Rattle.std.specs.Prelude.{◌≡◌, ◌≤◌, ◌^◌, min, length};
+ghost use Rattle.bv_num.specs.Value.{behind_spaces, behind_sign, front_digits, front_value, value_of, data_value};
 
 use crate::arithmetic::{TOO_BIG, narrow};
 
@@ -17,20 +18,32 @@ fn skip_spaces(text: &[u8]) -> &[u8]
     rest
 }
 
-/// The value of the digits that begin a text, or `WORD_VALUES` where it is greater than that.
-fn capped_value(base: u32, text: &[u8]) -> u64
+/// The digits that begin a text.
+#[derive(Clone, Copy, Debug, Drop)]
+pub struct DigitRun {
+    /// Their value, or 2^32 where it is greater than that.
+    pub value: u64,
+    /// The number of digits.
+    pub count: usize,
+}
+
+/// The digits of a base that begin a text, of which there may be none.
+pub fn digit_run(base: u32, text: &[u8]) -> DigitRun
     requires least { 2 ≤ base }
-    requires greatest { base ≤ 16 }
-    ensures { result ≡ min (front_value base text.now) WORD_VALUES }
+    requires greatest { base ≤ 36 }
+    ensures value { result.value ≡ min (front_value base text.now) (2 ^ 32) }
+    ensures count { result.count ≡ length (front_digits base text.now) }
 {
     let mut value = 0;
+    let mut count = 0;
     for byte in text {
         let Some(digit) = char::from(*byte).to_digit(base) else {
-            return value;
+            return DigitRun { value, count };
         };
         value = (value * u64::from(base) + u64::from(digit)).min(WORD_VALUES);
+        count += 1;
     }
-    value
+    DigitRun { value, count }
 }
 
 /// The text behind the sign that may begin it.
@@ -49,7 +62,7 @@ pub fn value_of(text: &[u8]) -> Result<i32, u8>
     ensures { result ≡ value_of text.now }
 {
     let text = skip_spaces(text);
-    let size = capped_value(10, skip_sign(text)) as i64;
+    let size = digit_run(10, skip_sign(text)).value as i64;
     if text.first() == Some(&b'-') {
         return narrow(-size);
     }
@@ -64,7 +77,7 @@ pub fn data_value(text: &[u8]) -> Result<i32, u8>
     let [b'&', digits @ ..] = text else {
         return value_of(text);
     };
-    let value = capped_value(16, digits);
+    let value = digit_run(16, digits).value;
     if value >= WORD_VALUES {
         return Err(TOO_BIG);
     }

@@ -1,4 +1,4 @@
-pub mod Computed
-pub mod Lists
+mod Candidates
+mod CountedWords
 mod References
 pub mod Tables

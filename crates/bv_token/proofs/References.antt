@@ -4,7 +4,7 @@ use Rattle.std.specs.List.{AllByRecursion}
 use Rattle.std.proofs.lemmas.Bool.{and_parts}
 use Rattle.std.proofs.lemmas.Nat.{and_mod, and_le_r}
 use Rattle.bv_token.specs.References.{reference_of_bytes, referred}
-use Rattle.bv_token.proofs.Computed.{all_below, all_below-at}
+use Rattle.bv_base.proofs.Computed.{all_below, all_below-at}
 
 -- the top bits of a byte's place are those of the whole number
 pub top_of_byte : (n : ℕ) → bit_and (n % 256) 192 ≡ bit_and n 192

@@ -3,7 +3,7 @@ use Rattle.std.proofs.Common.{◌≡◌, ℕ, ◌+◌, ◌<◌, Bool, true, fals
 use Rattle.std.proofs.lemmas.Slice.Eq.{bytes_eq-Decides}
 use Rattle.bv_token.specs.declared.tokens.TheConstants.{FIRST_TOKEN, KEYWORDS, OTHERWISE}
 use Rattle.bv_token.specs.Tokens.{unless_empty, keyword_of_token}
-use Rattle.bv_token.proofs.Computed.{all_below, all_below-at}
+use Rattle.bv_base.proofs.Computed.{all_below, all_below-at}
 
 abbrev same : Option (List ℕ) → Option (List ℕ) → Bool
 same None None = true

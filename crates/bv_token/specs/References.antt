@@ -2,6 +2,10 @@
 -- all of them from 0x40 to 0x7f, so that a reference holds no byte that could be taken for a line's end.
 use Rattle.std.specs.Prelude.{ℕ, ◌+◌, ◌*◌, ◌/◌, ◌%◌, List, [], ◌∷◌, bit_and, bit_or, bit_xor}
 
+-- the byte that begins a reference
+abbrev pub line_reference : ℕ
+line_reference = 0x8d
+
 -- the three bytes of a line number: first the top two bits of its low and of its high byte, with some bits turned, then
 -- the six other bits of each
 abbrev pub reference_of_bytes : ℕ → ℕ → List ℕ

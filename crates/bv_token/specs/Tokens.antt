@@ -1,6 +1,5 @@
 -- The tokens of Acorn's BASIC V and the keywords that they stand for (BBC BASIC Reference Manual, keyword tokens).
 use Rattle.std.specs.Prelude.{ℕ, ◌+◌, ◌-◌, Bool, ◌&&◌, ◌==◌, nat_le, nat_lt, List, [], ◌∷◌, length, get_or, Option, Some, None, bytes_eq, codes, if◌then◌else◌}
-use Rattle.bv_token.specs.declared.tokens.TheConstants.{PAIR_FIRST, PAIR_LAST}
 
 -- a letter put in front of the first word
 abbrev pub onto_first : ℕ → List (List ℕ) → List (List ℕ)
@@ -76,7 +75,7 @@ keyword_of_pair (p ∷ more) first second = if p.first == first && p.second == s
 
 -- a byte that begins a pair
 abbrev pub begins_pair : ℕ → Bool
-begins_pair byte = nat_le PAIR_FIRST byte && nat_le byte PAIR_LAST
+begins_pair byte = nat_le 0xc6 byte && nat_le byte 0xc8
 
 -- the keyword that begins with the first byte, whose second byte counts only in a pair
 abbrev pub keyword_of : ℕ → ℕ → Option (List ℕ)

@@ -1,3 +1,4 @@
+//! References to lines.
 ghost use Rattle.std.specs.Prelude.{◌≡◌, ◌<◌, ◌≤◌, slice_index};
 ghost use Rattle.std.specs.List.{AllByRecursion};
 ghost use Rattle.bv_token.specs.References.{reference_of, referred};

@@ -1,3 +1,4 @@
+//! The table of tokens and their keywords.
 ghost use Rattle.std.specs.Prelude.{◌≡◌, [], map, slice_index_or};
 ghost use Rattle.std.specs.Option.{option_map};
 ghost use Rattle.bv_token.specs.Tokens.{begins_pair, keyword_of, keyword_of_pair, keyword_of_token, pairs, unless_empty};
@@ -8,6 +9,12 @@ pub const OTHERWISE: u8 = 0x7f;
 /// The first of the tokens that stand in rows.
 pub const FIRST_TOKEN: u8 = 0x80;
 
+/// The token of ELSE behind an item.
+pub const ELSE: u8 = 0x8b;
+
+/// The token of THEN.
+pub const THEN: u8 = 0x8c;
+
 /// The token of FN, which begins a call of a function.
 pub const FN: u8 = 0xa4;
 
@@ -17,11 +24,20 @@ pub const PAIR_FIRST: u8 = 0xc6;
 /// The last of the bytes that begin a token of two bytes.
 pub const PAIR_LAST: u8 = 0xc8;
 
+/// The token of ELSE at the start of a line.
+pub const LINE_ELSE: u8 = 0xcc;
+
 /// The token of DATA, whose items are the bytes to the line's end.
 pub const DATA: u8 = 0xdc;
 
 /// The token of END.
 pub const END: u8 = 0xe0;
+
+/// The token of GOSUB.
+pub const GOSUB: u8 = 0xe4;
+
+/// The token of GOTO.
+pub const GOTO: u8 = 0xe5;
 
 /// The token of VDU.
 pub const VDU: u8 = 0xef;
@@ -31,6 +47,9 @@ pub const PROC: u8 = 0xf2;
 
 /// The token of REM, whose comment is the bytes to the line's end.
 pub const REM: u8 = 0xf4;
+
+/// The token of RESTORE.
+pub const RESTORE: u8 = 0xf7;
 
 /// The keywords of the tokens from `FIRST_TOKEN` on, sixteen to a row. A token that has none has an empty one.
 #[rattlefmt::skip]
@@ -46,7 +65,7 @@ static KEYWORDS: [&str; 128] = [
 ];
 
 /// The keyword of a pair, which is empty where there is none.
-fn pair_keyword(first: u8, second: u8) -> &'static str
+pub fn pair_keyword(first: u8, second: u8) -> &'static str
     ensures { unless_empty result.now ≡ keyword_of_pair pairs first second }
 {
     match (first, second) {
@@ -71,7 +90,7 @@ fn keyword_at(keywords: &[&'static str], place: u8) -> &'static str
 }
 
 /// The keyword of a single token, which is empty where there is none.
-fn single_keyword(token: u8) -> &'static str
+pub fn single_keyword(token: u8) -> &'static str
     ensures { unless_empty result.now ≡ keyword_of_token token }
 {
     if token == OTHERWISE {

@@ -2,12 +2,11 @@
 use Rattle.std.specs.Prelude.{ℕ, zero, suc, ◌-◌, ◌/◌, ◌%◌, Bool, true, false, ◌||◌, ◌==◌, not, List, [], ◌∷◌, ◌++◌, length, replicate, unwrap_or, codes, decimal, if◌then◌else◌}
 use Rattle.token_file.specs.declared.line.Line.{Line}
 use Rattle.bv_num.specs.Digits.{digit_byte}
-use Rattle.bv_token.specs.declared.reference.TheConstants.{LINE_REFERENCE}
-use Rattle.bv_token.specs.declared.tokens.TheConstants.{DATA, REM}
+use Rattle.bv_token.specs.Named.{data_token, rem_token}
 use Rattle.bv_token.specs.Tokens.{begins_pair, keyword_of, keyword_of_token}
-use Rattle.bv_token.specs.References.{referred}
+use Rattle.bv_token.specs.References.{line_reference, referred}
 
--- a text at the right of so many columns
+-- a text at the right of a number of columns
 abbrev pub justified : ℕ → List ℕ → List ℕ
 justified columns text = replicate (columns - length text) 32 ++ text
 
@@ -43,12 +42,12 @@ shown_byte byte = unwrap_or (keyword_of_token byte) (byte ∷ [])
 
 -- the tokens of REM and DATA, behind which all bytes stand as they are
 abbrev pub begins_tail : ℕ → Bool
-begins_tail byte = (byte == REM) || (byte == DATA)
+begins_tail byte = (byte == rem_token) || (byte == data_token)
 
 -- the symbol at the front of a text, outside quotation marks
 abbrev pub shown : ℕ → List ℕ → Shown
 shown first rest =
-    if first == LINE_REFERENCE then shown_reference rest
+    if first == line_reference then shown_reference rest
     else if begins_pair first then shown_pair first rest
     else if begins_tail first then shown_as (shown_byte first ++ rest) (length rest)
     else shown_as (shown_byte first) 0

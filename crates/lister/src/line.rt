@@ -1,3 +1,4 @@
+//! The listing of a line.
 ghost use Rattle.std.specs.Prelude.{◌≡◌, ◌++◌, length, decimal, false, IfOk, OnOk};
 ghost use Rattle.lister.specs.Listing.{justified, listed, listing};
 

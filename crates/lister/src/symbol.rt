@@ -1,3 +1,4 @@
+//! The listing of a symbol.
 ghost use Rattle.std.specs.Prelude.{◌≡◌, ◌++◌, drop, false, IfOk, OnOk};
 ghost use Rattle.bv_token.specs.Tokens.{begins_pair};
 ghost use Rattle.lister.specs.Listing.{hex_byte, shown, shown_byte, shown_pair, shown_reference};

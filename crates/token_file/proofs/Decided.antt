@@ -2,10 +2,9 @@
 use Rattle.std.proofs.Common.{◌≡◌, ◌⊎◌, inl, inr, ℕ, zero, suc, ◌+◌, ◌-◌, ◌*◌, ◌/◌, ◌%◌, ◌<◌, ◌≤◌, Bool, true, false, List, [], ◌∷◌, ◌++◌, length, take, drop, flat_map, refl, sym, ap, subst, ◌∙◌, arith, append_assoc, length-append, length-take-le}
 use Rattle.std.specs.List.{list_any}
 use Rattle.std.proofs.lemmas.Bool.{cases_eq, cases_lt}
-use Rattle.token_file.specs.declared.line.TheConstants.{RECORD_START, END_MARK, HEAD_BYTES}
 use Rattle.token_file.specs.declared.line.Line.{Line}
-use Rattle.token_file.specs.Lines.{record_of, IsLine, Lines, BeginsRecord, BeginsEnd, Malformed}
-use Rattle.bv_token.proofs.Lists.{same_head, same_tail}
+use Rattle.token_file.specs.Lines.{record_start, end_mark, head_bytes, record_of, IsLine, Lines, BeginsRecord, BeginsEnd, Malformed}
+use Rattle.bv_base.proofs.Lists.{same_head, same_tail}
 use Rattle.token_file.proofs.Fronts.{is_start, split_joins, text_with_start, is_record}
 
 -- a fact that is decided by a test
@@ -13,7 +12,7 @@ abbrev pub Decided : Type 0 → Type 0
 Decided P = P ⊎ (P → ⊥)
 
 -- what a record's front says of its bytes
-front_high : (high low size : ℕ) (rest : List ℕ) (line : Line) (more : List ℕ) → IsLine line → RECORD_START ∷ high ∷ low ∷ size ∷ rest ≡ record_of line ++ more → (high < END_MARK) × (low < 256) × (size ≡ length line.text + HEAD_BYTES) × (rest ≡ line.text ++ more)
+front_high : (high low size : ℕ) (rest : List ℕ) (line : Line) (more : List ℕ) → IsLine line → record_start ∷ high ∷ low ∷ size ∷ rest ≡ record_of line ++ more → (high < end_mark) × (low < 256) × (size ≡ length line.text + head_bytes) × (rest ≡ line.text ++ more)
 front_high high low size rest line more is e =
     let at1 = same_tail _ _ _ _ e in
     let at2 = same_tail _ _ _ _ at1 in
@@ -22,41 +21,41 @@ front_high high low size rest line more is e =
     let l : low ≡ line.number % 256 = same_head _ _ _ _ at2 in
     (omega (arith, h, is.number), omega (arith, l), same_head _ _ _ _ at3, same_tail _ _ _ _ at3)
 
-decide_text : (high low size count : ℕ) (rest : List ℕ) → high < END_MARK → low < 256 → size < 256 → size ≡ count + HEAD_BYTES → count ≤ length rest → Decided (BeginsRecord (RECORD_START ∷ high ∷ low ∷ size ∷ rest))
+decide_text : (high low size count : ℕ) (rest : List ℕ) → high < end_mark → low < 256 → size < 256 → size ≡ count + head_bytes → count ≤ length rest → Decided (BeginsRecord (record_start ∷ high ∷ low ∷ size ∷ rest))
 decide_text high low size count rest high_small low_small size_small is_size within = cases (list_any is_start (take count rest)) refl
   where
     joined : rest ≡ take count rest ++ drop count rest
     joined = split_joins count rest (take count rest) (drop count rest) refl refl
 
-    cases : (t : Bool) → list_any is_start (take count rest) ≡ t → Decided (BeginsRecord (RECORD_START ∷ high ∷ low ∷ size ∷ rest))
+    cases : (t : Bool) → list_any is_start (take count rest) ≡ t → Decided (BeginsRecord (record_start ∷ high ∷ low ∷ size ∷ rest))
     cases true is = inr (λ front. text_with_start high low size count rest (take count rest) (drop count rest) joined is_size (length-take-le count rest within) is front)
     cases false is =
         let found = is_record high low size count rest (take count rest) (drop count rest) joined high_small low_small size_small is_size (length-take-le count rest within) is in
         inl (record { number = high * 256 + low; text = take count rest }, drop count rest, found.0, found.1)
 
-decide_record : (high low size : ℕ) (rest : List ℕ) → Decided (BeginsRecord (RECORD_START ∷ high ∷ low ∷ size ∷ rest))
+decide_record : (high low size : ℕ) (rest : List ℕ) → Decided (BeginsRecord (record_start ∷ high ∷ low ∷ size ∷ rest))
 decide_record high low size rest =
-    elim (cases_lt high END_MARK) [
+    elim (cases_lt high end_mark) [
       | inr h ↦ inr (λ (line, more, is, e). (let f = front_high high low size rest line more is e in omega (arith, h, f.0)))
       | inl h ↦ elim (cases_lt low 256) [
         | inr l ↦ inr (λ (line, more, is, e). (let f = front_high high low size rest line more is e in omega (arith, l, f.1)))
         | inl l ↦ elim (cases_lt size 256) [
           | inr s ↦ inr (λ (line, more, is, e). (let f = front_high high low size rest line more is e in omega (arith, s, f.2, is.short)))
-          | inl s ↦ elim (cases_lt size HEAD_BYTES) [
+          | inl s ↦ elim (cases_lt size head_bytes) [
             | inl few ↦ inr (λ (line, more, is, e). (let f = front_high high low size rest line more is e in omega (arith, few, f.2)))
-            | inr enough ↦ elim (cases_lt (length rest) (size - HEAD_BYTES)) [
+            | inr enough ↦ elim (cases_lt (length rest) (size - head_bytes)) [
               | inl short ↦ inr (λ (line, more, is, e). (let f = front_high high low size rest line more is e in omega (arith, short, f.2, ap length f.3, length-append line.text more)))
-              | inr within ↦ decide_text high low size (size - HEAD_BYTES) rest h l s (omega (arith, enough)) within
+              | inr within ↦ decide_text high low size (size - head_bytes) rest h l s (omega (arith, enough)) within
             ]
           ]
         ]
       ]
     ]
 
-length_of_record : (line : Line) (more : List ℕ) (xs : List ℕ) → xs ≡ record_of line ++ more → HEAD_BYTES ≤ length xs
+length_of_record : (line : Line) (more : List ℕ) (xs : List ℕ) → xs ≡ record_of line ++ more → head_bytes ≤ length xs
 length_of_record line more xs e = omega (arith, ap length e, length-append (record_of line) more)
 
-begins_with_start : (x : ℕ) (xs : List ℕ) → BeginsRecord (x ∷ xs) → x ≡ RECORD_START
+begins_with_start : (x : ℕ) (xs : List ℕ) → BeginsRecord (x ∷ xs) → x ≡ record_start
 begins_with_start x xs (line, more, is, e) = same_head _ _ _ _ e
 
 -- whether a record stands at the front
@@ -66,7 +65,7 @@ decide_front (x ∷ []) = inr (λ (line, more, is, e). (let n = length_of_record
 decide_front (x ∷ high ∷ []) = inr (λ (line, more, is, e). (let n = length_of_record line more (x ∷ high ∷ []) e in omega (arith, n)))
 decide_front (x ∷ high ∷ low ∷ []) = inr (λ (line, more, is, e). (let n = length_of_record line more (x ∷ high ∷ low ∷ []) e in omega (arith, n)))
 decide_front (x ∷ high ∷ low ∷ size ∷ rest) =
-    elim (cases_eq x RECORD_START) [
+    elim (cases_eq x record_start) [
       | inl is ↦ subst (λ n. Decided (BeginsRecord (n ∷ high ∷ low ∷ size ∷ rest))) (sym is) (decide_record high low size rest)
       | inr other ↦ inr (λ front. other (begins_with_start x _ front))
     ]
@@ -75,9 +74,9 @@ decide_end : (xs : List ℕ) → Decided (BeginsEnd xs)
 decide_end [] = inr (λ (rest, e). (let n = ap length e in omega (arith, n)))
 decide_end (x ∷ []) = inr (λ (rest, e). (let n = ap length e in omega (arith, n)))
 decide_end (x ∷ y ∷ rest) =
-    elim (cases_eq x RECORD_START) [
+    elim (cases_eq x record_start) [
       | inr other ↦ inr (λ (more, e). other (same_head _ _ _ _ e))
-      | inl is ↦ elim (cases_eq y END_MARK) [
+      | inl is ↦ elim (cases_eq y end_mark) [
         | inr other ↦ inr (λ (more, e). other (same_head _ _ _ _ (same_tail _ _ _ _ e)))
         | inl too ↦ inl (rest, (λ i. is i ∷ too i ∷ rest))
       ]

@@ -3,3 +3,4 @@ mod Fronts
 mod SoFar
 mod Written
 pub mod Decided
+pub mod OneReading

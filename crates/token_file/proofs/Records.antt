@@ -1,10 +1,9 @@
 -- A file has one reading: one list of lines, or one place where it is malformed.
 use Rattle.std.proofs.Common.{◌≡◌, ℕ, ◌+◌, ◌/◌, ◌%◌, List, [], ◌∷◌, ◌++◌, length, flat_map, refl, sym, ap, ◌∙◌, arith, append_assoc, length-append}
 use Rattle.std.specs.List.{AllByRecursion}
-use Rattle.bv_token.proofs.Lists.{same_head, same_tail, same_fronts}
-use Rattle.token_file.specs.declared.line.TheConstants.{RECORD_START, END_MARK, HEAD_BYTES}
+use Rattle.bv_base.proofs.Lists.{same_head, same_tail, same_fronts}
 use Rattle.token_file.specs.declared.line.Line.{Line}
-use Rattle.token_file.specs.Lines.{record_of, IsLine, Lines, BeginsRecord, BeginsEnd}
+use Rattle.token_file.specs.Lines.{record_start, end_mark, head_bytes, record_of, IsLine, Lines, BeginsRecord, BeginsEnd}
 
 number_from_bytes : (a b : ℕ) → a / 256 ≡ b / 256 → a % 256 ≡ b % 256 → a ≡ b
 number_from_bytes a b high low = omega arith
@@ -15,15 +14,15 @@ same_records a b rest rest' e =
     let at1 = same_tail _ _ _ _ e in
     let at2 = same_tail _ _ _ _ at1 in
     let at3 = same_tail _ _ _ _ at2 in
-    let size : length a.text + HEAD_BYTES ≡ length b.text + HEAD_BYTES = same_head _ _ _ _ at3 in
+    let size : length a.text + head_bytes ≡ length b.text + head_bytes = same_head _ _ _ _ at3 in
     let number = number_from_bytes a.number b.number (same_head _ _ _ _ at1) (same_head _ _ _ _ at2) in
     let fronts = same_fronts a.text b.text rest rest' (omega arith) (same_tail _ _ _ _ at3) in
     ((λ i. record { number = number i; text = fronts.0 i }), fronts.1)
 
 -- a record isn't the end
-pub record≢end : (line : Line) (rest rest' : List ℕ) → IsLine line → record_of line ++ rest ≡ RECORD_START ∷ END_MARK ∷ rest' → ⊥
+pub record≢end : (line : Line) (rest rest' : List ℕ) → IsLine line → record_of line ++ rest ≡ record_start ∷ end_mark ∷ rest' → ⊥
 record≢end line rest rest' is e =
-    let high : line.number / 256 ≡ END_MARK = same_head _ _ _ _ (same_tail _ _ _ _ e) in
+    let high : line.number / 256 ≡ end_mark = same_head _ _ _ _ (same_tail _ _ _ _ e) in
     omega (arith, is.number)
 
 -- the lines of a file are determined

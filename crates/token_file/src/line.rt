@@ -1,3 +1,4 @@
+//! A line of a program, and the bytes of its record.
 use bv_base::{LINE_NUMBERS, LONGEST_TEXT};
 use sqlite_items::Items;
 

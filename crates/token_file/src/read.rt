@@ -1,3 +1,4 @@
+//! Reading the lines of a file.
 ghost use Rattle.std.specs.Prelude.{◌≡◌, ◌≢◌, ℕ, ◌^◌, ◌<◌, ◌∷◌, length, IfOk, IfErr};
 ghost use Rattle.token_file.specs.Lines.{Lines};
 ghost use Rattle.token_file.specs.Read.{IsFront, ExplainsFile};

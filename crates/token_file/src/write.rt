@@ -1,5 +1,6 @@
+//! Writing the file of lines.
 ghost use Rattle.std.specs.Prelude.{◌≡◌, ◌++◌, All, IfOk, OnOk};
-ghost use Rattle.token_file.specs.Lines.{IsLine, record_of, Lines, HasOneReading};
+ghost use Rattle.token_file.specs.Lines.{IsLine, record_of, file_of, Lines, HasOneReading};
 
 use crate::line::{END_MARK, HEAD_BYTES, Line, RECORD_START};
 use bv_base::NoMemory;
@@ -16,9 +17,10 @@ fn push_record(bytes: &mut Vec<u8>, line: &Line) -> Result<(), AllocError>
 }
 
 /// The file of these lines, each of which has a number and a text that a record can hold. Reading it gives the same
-/// lines.
+/// lines, and nothing stands after its end.
 pub fn write_file(alloc: Global, lines: &[Line]) -> Result<Vec<u8>, NoMemory>
     requires { All IsLine lines.now }
+    ensures exact { IfOk result (λ bytes. bytes.items ≡ file_of lines.now) }
     ensures lines { IfOk result (λ bytes. Lines bytes.items lines.now) }
     ensures reading { IfOk result (λ bytes. HasOneReading bytes.items lines.now) }
 {

@@ -1,4 +1,4 @@
-use Rattle.bas_lex.specs.Bytes.{is_in_name}
+use Rattle.bv_token.specs.Names.{is_in_name}
 use Rattle.bas_lex.proofs.Runs.{reads_one}
 use Rattle.bas_lex.proofs.name.skip_letters.Goals as goal
 

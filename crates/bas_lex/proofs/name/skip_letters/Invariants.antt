@@ -1,5 +1,5 @@
 use Rattle.std.proofs.Common.{length}
-use Rattle.bas_lex.specs.Bytes.{is_in_name}
+use Rattle.bv_token.specs.Names.{is_in_name}
 use Rattle.bas_lex.proofs.Runs.{ReadsRun}
 use Rattle.bas_lex.proofs.name.skip_letters.Given as goal
 

@@ -3,7 +3,8 @@ use Rattle.bv_token.specs.declared.reference.TheConstants.{LINE_REFERENCE}
 use Rattle.bv_token.specs.declared.tokens.TheConstants.{FN, PROC}
 use Rattle.bas_lex.specs.declared.number.Radix.TheVariants as radixes
 use Rattle.bas_lex.proofs.Classes.{OfName, OfSystemName, OfText, OfLabel, OfLineRef, OfToken, OfSign, OfCall, OfNumber, joined, joined_at, class_name, class_decimal, class_token, class_sign}
-use Rattle.bas_lex.specs.Bytes.{begins_name, ampersand, at_sign, percent_sign, point, quotation_mark}
+use Rattle.bv_token.specs.Names.{begins_name}
+use Rattle.bas_lex.specs.Bytes.{ampersand, at_sign, percent_sign, point, quotation_mark}
 use Rattle.bas_lex.specs.Scan.{Best, Names}
 use Rattle.bas_lex.proofs.scan.read_symbol.Goals as goal
 use Rattle.bas_lex.proofs.scan.read_symbol.Goals.{in_default-via-then-first-lt48, in_default-via-else-first-lt48+else-first-lt58+then-first-lt127}

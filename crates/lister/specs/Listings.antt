@@ -1,4 +1,4 @@
--- The listing of a program.
+-- The listing of a program. This project's own.
 use Rattle.std.specs.Prelude.{ℕ, List, flat_map}
 use Rattle.token_file.specs.declared.line.Line.{Line}
 use Rattle.lister.specs.Listing.{listing}
