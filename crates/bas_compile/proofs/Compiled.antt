@@ -1,16 +1,20 @@
 -- The code of an accepted program fits an image, and is what the program does.
-use Rattle.std.proofs.Common.{◌≡◌, ℕ, ◌+◌, ◌*◌, ◌≤◌, List, [], ◌∷◌, length, refl, ap, subst, arith, length-append}
+use Rattle.std.proofs.Common.{◌≡◌, ℕ, ◌+◌, ◌*◌, ◌≤◌, List, [], ◌∷◌, length, refl, sym, ap, subst, arith, length-append}
 use Rattle.token_file.specs.declared.line.Line.{Line}
 use Rattle.token_file.specs.Lines.{record_of, Lines}
 use Rattle.bv_base.specs.Limits.{file_bytes, image_words}
+use Rattle.bv_base.specs.Words.{AreWords}
 use Rattle.arm2_machine.specs.Image.{ImageOf}
+use Rattle.arm2_machine.proofs.Images.{one_image}
 use Rattle.bas_compile.specs.declared.item.Item.{Item}
 use Rattle.bas_compile.specs.declared.item.Item.TheVariants.{Vdu, End}
 use Rattle.bas_compile.specs.declared.item.ProgramLine.{ProgramLine}
+use Rattle.bas_compile.specs.Agrees.{Agrees}
+use Rattle.bas_compile.specs.Meaning.{source_run}
 use Rattle.bas_compile.specs.Grammar.{Parses, ParsesAll, Accepted}
 use Rattle.bas_compile.specs.Code.{code_of}
 use Rattle.bas_compile.specs.Correct.{CompilesTo}
-use Rattle.bas_compile.proofs.CodeAt.{IsSmall, AreSmall, length-code_of}
+use Rattle.bas_compile.proofs.CodeAt.{IsSmall, AreSmall, are_words, length-code_of}
 use Rattle.bas_compile.proofs.Readings.{accepted_once}
 use Rattle.bas_compile.proofs.Simulation.{code-agrees}
 
@@ -51,6 +55,12 @@ compiles bytes contents words p accepted is image = record {
   words = code_of p;
   accepted = accepted;
   only = λ other also. accepted_once bytes other p also accepted;
+  are_words = are_words p (small_program accepted.lines p accepted.parsed);
   image = subst (ImageOf contents) is image;
   agrees = code-agrees p (small_program accepted.lines p accepted.parsed) (code_fits bytes p accepted);
 }
+
+-- whatever words the contents are an image of agree with the program
+pub words_agree : (bytes contents words : List ℕ) (compiled : CompilesTo bytes contents) → AreWords words → ImageOf contents words → Agrees (source_run compiled.program) words
+words_agree bytes contents words compiled are is =
+    subst (Agrees (source_run compiled.program)) (sym ((one_image contents compiled.words compiled.are_words compiled.image).only words are is)) compiled.agrees

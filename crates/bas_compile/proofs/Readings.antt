@@ -2,7 +2,7 @@
 use Rattle.std.proofs.Common.{◌≡◌, ℕ, List, [], ◌∷◌, refl, sym, ap, subst, ◌∙◌, arith}
 use Rattle.token_file.specs.declared.line.Line.{Line}
 use Rattle.bv_base.proofs.Lists.{same_head, same_tail}
-use Rattle.token_file.proofs.Records.{one_list_of_lines}
+use Rattle.token_file.proofs.OneReading.{one_reading}
 use Rattle.bv_token.specs.declared.tokens.TheConstants.{END, VDU}
 use Rattle.bas_compile.specs.declared.item.Item.{Item}
 use Rattle.bas_compile.specs.declared.item.Item.TheVariants.{Vdu, End}
@@ -43,5 +43,5 @@ one_program (l ∷ ls) (a ∷ more) (b ∷ bs) p q =
 -- a file is accepted as one program at most
 pub accepted_once : (bytes : List ℕ) (a b : List ProgramLine) → Accepted bytes a → Accepted bytes b → a ≡ b
 accepted_once bytes a b first second =
-    let lines = one_list_of_lines bytes bytes first.lines second.lines refl first.read second.read in
+    let lines = (one_reading bytes).read_once first.lines second.lines first.read second.read in
     one_program second.lines a b (subst (λ l. ParsesAll l a) lines first.parsed) second.parsed

@@ -19,7 +19,7 @@ use Rattle.bas_compile.specs.declared.item.Item.{Item}
 use Rattle.bas_compile.specs.declared.item.Item.TheVariants.{Vdu, End}
 use Rattle.bas_compile.specs.declared.item.ProgramLine.{ProgramLine}
 use Rattle.bas_compile.specs.Code.{end_code, item_code, code_of}
-use Rattle.bas_compile.specs.Correct.{Agrees}
+use Rattle.bas_compile.specs.Agrees.{Agrees}
 use Rattle.bas_compile.specs.Meaning.{State, start, Course, Finished, Spent, at_rest, at_item, carried, execute, shows, source_run}
 use Rattle.bas_compile.proofs.CodeAt.{IsSmall, AreSmall, are_words, length-code_of, at_line, at_end, small_at}
 
@@ -151,7 +151,7 @@ by_course n (Finished s report) m f = (f.0, ap (outcome_of (λ t. arena_of t.ram
 by_course n (Spent s) m f = (f.0, f.2, ap (outcome_of (λ t. arena_of t.ram)) f.3 ∙ ap (λ a. Going s.out a) f.4)
 
 -- the code of a program agrees with it
-pub code-agrees : (p : List ProgramLine) → AreSmall p → length (code_of p) ≤ image_words → Agrees p (code_of p)
-code-agrees p small short input =
+pub code-agrees : (p : List ProgramLine) → AreSmall p → length (code_of p) ≤ image_words → Agrees (source_run p) (code_of p)
+code-agrees p small short input are_bytes =
     agree_from (source_run p input) (board_run (code_of p) input) (grows_run (λ t. arena_of t.ram) board_step (loaded (code_of p) input) [])
     (λ n. by_course n (execute p n 0 (start input)) (loaded (code_of p) input) (follows p small short n 0 (loaded (code_of p) input) (start input) (omega arith) (stands_first p input)))

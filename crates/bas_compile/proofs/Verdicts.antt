@@ -3,7 +3,8 @@ use Rattle.std.proofs.Common.{◌≡◌, ◌≢◌, ◌⊎◌, inl, inr, ℕ, �
 use Rattle.std.specs.List.{AllByRecursion}
 use Rattle.token_file.specs.declared.line.Line.{Line}
 use Rattle.std.proofs.lemmas.Bool.{cases_eq, cases_lt}
-use Rattle.token_file.proofs.Decided.{Decided, every_file_is_read}
+use Rattle.token_file.proofs.Decided.{Decided}
+use Rattle.token_file.proofs.OneReading.{one_reading}
 use Rattle.bv_base.proofs.Lists.{same_head, same_tail}
 use Rattle.bv_token.specs.declared.tokens.TheConstants.{END, VDU}
 use Rattle.bas_compile.specs.declared.item.Item.{Item}
@@ -16,6 +17,7 @@ use Rattle.bv_base.specs.Limits.{file_bytes}
 use Rattle.bas_compile.specs.Grammar.{IsDigit, value_of, Parses, ParsesAll, Accepted}
 use Rattle.bas_compile.specs.Parsing.{without_spaces, NoDigitFirst, IsLastNumber, IsFront}
 use Rattle.bas_compile.specs.Refused.{FirstOutside, Refused}
+use Rattle.bas_compile.proofs.Refusals.{refused_for}
 use Rattle.bas_compile.proofs.Texts.{ReadsDigits, is_last_number, digits_read, no_vdu, front_of, item_of}
 
 decide_digit : (c : ℕ) → Decided (IsDigit c)
@@ -130,12 +132,12 @@ decide_lines (line ∷ lines) =
 pub accepted_or_refused : (bytes : List ℕ) → ((p : List ProgramLine) × Accepted bytes p) ⊎ ((r : Refusal) × Refused bytes r)
 accepted_or_refused bytes =
     elim (cases_lt file_bytes (length bytes)) [
-      | inl long ↦ inr (refusals.Limit limits.File (file_bytes + 1), (long, refl))
-      | inr short ↦ elim (every_file_is_read bytes) [
-        | inr malformed ↦ inr (refusals.Malformed malformed.0, (short, malformed.1))
+      | inl long ↦ inr (refusals.Limit limits.File (file_bytes + 1), inl (long, refl))
+      | inr short ↦ elim (one_reading bytes).read_or_malformed [
+        | inr malformed ↦ inr (refusals.Malformed malformed.0, refused_for bytes (refusals.Malformed malformed.0) (short, malformed.1))
         | inl (lines, read) ↦ elim (decide_lines lines) [
           | inl (program, parsed) ↦ inl (program, record { short = short; lines = lines; read = read; parsed = parsed })
-          | inr (line, first) ↦ inr (refusals.Outside line, record { short = short; lines = lines; read = read; first = first })
+          | inr (line, first) ↦ inr (refusals.Outside line, refused_for bytes (refusals.Outside line) (record { short = short; lines = lines; read = read; first = first }))
         ]
       ]
     ]

@@ -4,3 +4,5 @@ pub mod Refused
 pub mod Meaning
 pub mod Code
 pub mod Correct
+pub mod Reasons
+pub mod Agrees

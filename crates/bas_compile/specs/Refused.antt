@@ -1,5 +1,5 @@
 -- Why a file is refused: the first cause in order. This project's own.
-use Rattle.std.specs.Prelude.{◌≡◌, ℕ, ◌+◌, ◌<◌, ◌≤◌, List, ◌∷◌, ◌++◌, length}
+use Rattle.std.specs.Prelude.{◌≡◌, ◌⊎◌, ℕ, ◌+◌, ◌<◌, List, [], ◌∷◌, ◌++◌, length}
 use Rattle.token_file.specs.declared.line.Line.{Line}
 use Rattle.token_file.specs.declared.read.FileError.{FileError}
 use Rattle.token_file.specs.declared.read.FileError.TheVariants as errors
@@ -23,32 +23,37 @@ pub record FirstOutside (lines : List Line) (number : ℕ) : Type 0 where
   pub outside : (item : Item) → Parses line.text item → ⊥
   pub is_number : line.number ≡ number
 
--- The file is short enough and has lines, of which this is the number of the first that is no item.
-pub record IsOutside (bytes : List ℕ) (number : ℕ) : Type 0 where
-  pub short : length bytes ≤ file_bytes
-  pub lines : List Line
-  pub read : Lines bytes lines
-  pub first : FirstOutside lines number
+-- What a file can be refused for, in the order in which it is asked: its length, its records, its lines.
+pub data Cause : Type 0 where
+  TooLong : Cause
+  NoLines : Cause
+  OutsideLine : Cause
 
--- The file is refused for this reason. Want of memory is no reason of the file's own.
+abbrev pub causes : List Cause
+causes = TooLong ∷ NoLines ∷ OutsideLine ∷ []
+
+-- a cause holds of a file, and this is the refusal for it
+abbrev pub Holds : Cause → List ℕ → Refusal → Type 0
+Holds TooLong bytes reason = (file_bytes < length bytes) × (reason ≡ refusals.Limit limits.File (file_bytes + 1))
+Holds NoLines bytes reason = (at : ℕ) × Malformed bytes at × (reason ≡ refusals.Malformed at)
+Holds OutsideLine bytes reason =
+    (lines : List Line) × (number : ℕ) × Lines bytes lines × FirstOutside lines number × (reason ≡ refusals.Outside number)
+
+-- the first cause of a list that holds
+abbrev pub FirstOf : List Cause → List ℕ → Refusal → Type 0
+FirstOf [] bytes reason = ⊥
+FirstOf (cause ∷ later) bytes reason = Holds cause bytes reason ⊎ (((other : Refusal) → Holds cause bytes other → ⊥) × FirstOf later bytes reason)
+
+-- A file is refused for the first cause that holds. Want of memory is no cause of the file's own.
 abbrev pub Refused : List ℕ → Refusal → Type 0
-Refused bytes (refusals.Malformed at) = (length bytes ≤ file_bytes) × Malformed bytes at
-Refused bytes (refusals.Outside line) = IsOutside bytes line
-Refused bytes (refusals.Limit limits.File count) = (file_bytes < length bytes) × (count ≡ file_bytes + 1)
-Refused bytes (refusals.Limit limits.Names count) = ⊥
-Refused bytes (refusals.Limit limits.Strings count) = ⊥
-Refused bytes (refusals.Limit limits.Parameters count) = ⊥
-Refused bytes (refusals.Limit limits.Dimensions count) = ⊥
-Refused bytes (refusals.Limit limits.Input count) = ⊥
-Refused bytes (refusals.Limit limits.Image count) = ⊥
-Refused bytes refusals.NoMemory = ⊥
+Refused bytes reason = FirstOf causes bytes reason
 
--- what a refusal by the compiler says: the file is refused so, or memory wanted
+-- what a refusal by the compiler says: the file is refused so, or there was no memory
 abbrev pub Explained : List ℕ → Refusal → Type 0
 Explained bytes refusals.NoMemory = Unit {0}
 Explained bytes refusal = Refused bytes refusal
 
--- what a refusal by the parser says of the lines: one of them is the first that is no item, or memory wanted
+-- what a refusal by the parser says of the lines: one of them is the first that is no item, or there was no memory
 abbrev pub ExplainsLines : List Line → Refusal → Type 0
 ExplainsLines lines (refusals.Malformed at) = ⊥
 ExplainsLines lines (refusals.Outside line) = FirstOutside lines line

@@ -1,6 +1,8 @@
+//! From the bytes of a file to those of its image.
 ghost use Rattle.std.specs.Prelude.{◌≡◌, ◌⊎◌, List, IfOk, IfErr, IsOkUnless, IsErrAnd};
 ghost use Rattle.bas_compile.specs.Correct.{CompilesTo};
 ghost use Rattle.bas_compile.specs.Grammar.{Accepted};
+ghost use Rattle.bas_compile.specs.Reasons.{GivesReason};
 ghost use Rattle.bas_compile.specs.Refused.{Refused, Explained};
 ghost use Rattle.bas_compile.specs.declared.item.ProgramLine.{ProgramLine as Line};
 ghost use Rattle.bas_compile.specs.declared.refusal.Refusal.{Refusal as Reason};
@@ -29,7 +31,7 @@ impl From<FileError> for Refusal {
 
 fn build_image(alloc: Global, bytes: &[u8]) -> Result<Vec<u8>, Refusal>
     ensures headline { IfOk result (λ contents. CompilesTo bytes.now contents.items) }
-    ensures refused { IfErr result (Explained bytes.now) }
+    ensures refused { IfErr result (GivesReason bytes.now) }
 {
     if bytes.len() > FILE_BYTES as usize {
         return Err(LONG_FILE);

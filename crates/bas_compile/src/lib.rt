@@ -11,5 +11,5 @@ mod refusal;
 
 pub use compiler::compile;
 pub use item::{Item, ProgramLine};
-pub use laws::one_verdict;
+pub use laws::{compiled_images_agree, one_verdict};
 pub use refusal::{LONG_FILE, Refusal, Which};

@@ -42,7 +42,7 @@ module _ (before after : SeenShelf) (file image : List ℕ) where
   headline endings.Done (inr ends) is = ends
   headline endings.Usage (inl fails) is = absurd fails
   headline endings.Usage (inr ends) is = absurd ends.2
-  headline (endings.Refused reason) ends is = absurd (refused≢ reason statuses.Done is (λ no. no))
+  headline (endings.Refused reason) ends is = absurd (refused≢ reason statuses.Done is (λ none. none))
   headline (endings.ReadFault name) ends is = cc
   headline endings.WriteFault ends is = cc
   headline (endings.NotImage at) ends is = cc
@@ -72,7 +72,7 @@ module _ (before after : SeenShelf) (file image : List ℕ) where
   refused bytes reason ending (inl fails) is why =
       elim (untaken_content before after file file_bytes long_file bytes ending fails is) [
         | inl none ↦ inr none
-        | inr long ↦ inl (ap status_of long.0 ∙ ap refusal_status (refused_once bytes long_file reason (long.1, refl) why))
+        | inr long ↦ inl (ap status_of long.0 ∙ ap refusal_status (refused_once bytes long_file reason (inl (long.1, refl)) why))
       ]
   refused bytes reason endings.Done (inr (given, tells, puts)) is why =
       let same = taken_before_is before after file bytes given (Put image puts.contents) puts.logged tells is in
@@ -96,7 +96,7 @@ module _ (before after : SeenShelf) (file image : List ℕ) where
   unreadable : (ending : Ending) → EndsCompile before after file image ending → status_of ending ≡ statuses.ReadFault → CannotRead before after file
   unreadable endings.Done ends is = cc
   unreadable endings.Usage ends is = cc
-  unreadable (endings.Refused reason) ends is = absurd (refused≢ reason statuses.ReadFault is (λ no. no))
+  unreadable (endings.Refused reason) ends is = absurd (refused≢ reason statuses.ReadFault is (λ none. none))
   unreadable (endings.ReadFault name) (inl fails) is = fails.1
   unreadable (endings.ReadFault name) (inr ends) is = absurd ends.2
   unreadable endings.WriteFault ends is = cc

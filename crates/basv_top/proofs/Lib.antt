@@ -1,4 +1,8 @@
 mod Endings
 mod Written
+mod Statuses
 mod Taken
 mod RunOutputs
+mod CompileFacts
+mod ListFacts
+mod RunFacts

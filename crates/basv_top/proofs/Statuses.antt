@@ -26,7 +26,7 @@ refusal_has refusals.NoMemory = tt
 
 -- a refusal has no other status
 pub refused≢ : (reason : Refusal) (status : Status) → refusal_status reason ≡ status → (IsRefusalStatus status → ⊥) → ⊥
-refused≢ reason status is no = no (subst IsRefusalStatus is (refusal_has reason))
+refused≢ reason status is other = other (subst IsRefusalStatus is (refusal_has reason))
 
 pub run_has : (end : RunEnd) → IsRunStatus (end_status end)
 run_has (ends.Over reports.Done) = tt

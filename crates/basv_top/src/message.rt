@@ -1,5 +1,5 @@
 //! The line on the error output that an ending has.
-ghost use Rattle.std.specs.Prelude.{◌≡◌, ◌/◌, ◌%◌, ◌<◌, [], ◌∷◌, ◌++◌, OnOk, OnErr};
+ghost use Rattle.std.specs.Prelude.{◌≡◌, ◌/◌, ◌%◌, ◌<◌, ◌≤◌, [], ◌∷◌, ◌++◌, OnOk, OnErr};
 ghost use Rattle.bv_io.specs.Shelf.{Rose};
 ghost use Rattle.bv_io.specs.Sink.{with_bytes, WritesPart};
 ghost use Rattle.bv_num.specs.Digits.{digit_byte};
@@ -219,6 +219,19 @@ fn ending_message<'a>(ending: Ending<'a>, numbers: &'a mut Numbers) -> Message<'
     }
 }
 
+/// Writes a piece, unless it is empty.
+fn write_piece<E: Sink>(err: &mut E, piece: &[u8]) -> Result<(), SinkFault>
+    ensures ok { OnOk result (E.written err.new ≡ with_bytes (E.written err.old) piece.now) }
+    ensures part { OnErr result (WritesPart (E.written err.old) piece.now (E.written err.new)) }
+    ensures failed { OnErr result (Rose (E.faults err.old) (E.faults err.new)) }
+    ensures faults { E.faults err.old ≤ E.faults err.new }
+{
+    if piece.is_empty() {
+        return Ok(());
+    }
+    err.write(piece)
+}
+
 /// Writes a message as a line, which takes no memory.
 fn write_line<E: Sink>(err: &mut E, message: &Message<'_>) -> Result<(), SinkFault>
     ensures ok { OnOk result (E.written err.new ≡ with_bytes (E.written err.old) (message_text message.now ++ 10 ∷ [])) }
@@ -233,7 +246,7 @@ fn write_line<E: Sink>(err: &mut E, message: &Message<'_>) -> Result<(), SinkFau
         message.tail,
         message.line,
     ] {
-        err.write(piece)?;
+        write_piece(err, piece)?;
     }
     err.write(b"\n")
 }
