@@ -3,11 +3,11 @@ use Rattle.std.proofs.Common.{◌≡◌, ℕ, zero, suc, ◌+◌, ◌*◌, ◌/�
 use Rattle.std.proofs.lemmas.Bool.{eqb-false}
 use Rattle.std.specs.Int.RustNames.{count_ones}
 use Rattle.std.proofs.lemmas.Nat.{mod-pow-add, ones_cat, ones-le, shr-shr}
-use Rattle.arm2_cpu.specs.declared.regs.Regs.{Regs}
+use Rattle.arm2_alu.specs.declared.regs.Regs.{Regs}
 use Rattle.arm2_cpu.specs.Access.{can_use}
 use Rattle.arm_isa.specs.Fields.{bit}
 use Rattle.arm2_cpu.specs.Memory.{Space, word_at, with_word}
-use Rattle.arm2_cpu.specs.Registers.{with_banked}
+use Rattle.arm2_alu.specs.Registers.{with_banked}
 use Rattle.arm2_cpu.specs.Block.{registers_among, registers_in, low_registers_in, next_word, refused_word, with_block, with_words, stored_value}
 
 -- one register more, or none

@@ -7,26 +7,25 @@ use Rattle.arm_isa.proofs.ValidLaws.{valid-branch, valid-data_immediate}
 use Rattle.arm_isa.proofs.ValidTest.{valid_by_test}
 use Rattle.arm_isa.proofs.ImmediateLaws.{immediate_value-byte}
 use Rattle.arm2_cpu.specs.declared.event.CpuEvent.TheVariants as events
-use Rattle.arm2_cpu.specs.declared.regs.Regs.{Regs}
-use Rattle.arm2_cpu.specs.declared.shifts.Shifted.{Shifted}
-use Rattle.arm2_cpu.specs.declared.shifts.TheConstants.{ASR}
+use Rattle.arm2_alu.specs.declared.regs.Regs.{Regs}
+use Rattle.arm2_alu.specs.declared.shifts.Shifted.{Shifted}
+use Rattle.arm_isa.specs.Numbers.{ASR}
 use Rattle.arm2_cpu.specs.Branch.{branch_target}
 use Rattle.arm_isa.specs.Fields.{bit}
-use Rattle.arm2_cpu.specs.Conditions.{carry, with_flags}
-use Rattle.arm2_cpu.specs.Data.{flagged}
-use Rattle.arm2_cpu.specs.Operations.{is_signed_word}
-use Rattle.arm2_cpu.specs.Shifts.{shifted}
+use Rattle.arm2_alu.specs.Conditions.{carry, with_flags}
+use Rattle.arm2_alu.specs.Results.{flagged}
+use Rattle.arm2_alu.specs.Operations.{is_signed_word}
+use Rattle.arm2_alu.specs.Shifts.{shifted}
 use Rattle.arm2_cpu.specs.Memory.{Space, read_word, word_at, with_word}
-use Rattle.arm2_cpu.specs.Registers.{IsValidRegs, register, with_register, at_next, jumped, pc_ahead, r15}
+use Rattle.arm2_alu.specs.Registers.{IsValidRegs, register, with_register, at_next, jumped, pc_ahead, r15}
 use Rattle.arm2_cpu.specs.Step.{cpu_step}
-use Rattle.arm2_cpu.specs.declared.regs.TheConstants.{PC_END}
 use Rattle.arm2_cpu.specs.Block.{registers_among, registers_in, low_registers_in, next_word, refused_word, with_block, with_words}
 use Rattle.arm2_cpu.specs.Access.{moved, offset_of}
-use Rattle.arm2_cpu.proofs.RegisterLaws.{holds-always, holds-at_pc, holds-vs, holds-with_register, pc-with_flags, pc-with_register, r15-jump, register-at_pc, register-same, svc-with_flags, svc-with_register}
+use Rattle.arm2_alu.proofs.RegisterLaws.{holds-always, holds-at_pc, holds-vs, holds-with_register, pc-with_flags, pc-with_register, r15-jump, register-at_pc, register-same, svc-with_flags, svc-with_register}
 use Rattle.arm2_cpu.proofs.StepBasics.{goes, fetches_word}
 use Rattle.arm2_cpu.proofs.TransferLaws.{block_start, step-ldm_pc, step-ldr, step-stm, with_words-more, with_words-none, offset-lsl, not_open-offset_lsl, moved-up, moved-down, with_block-more, with_block-none, refused-more, refused-none}
-use Rattle.arm2_cpu.proofs.ValueLaws.{first-register, plain_is_amount, shift_is_amount, not_open-by_register, second-plain, second-lsl, second-by_register, summed}
-use Rattle.arm2_cpu.proofs.ShiftValues.{shifted-asr_high}
+use Rattle.arm2_alu.proofs.ValueLaws.{first-register, plain_is_amount, shift_is_amount, not_open-by_register, second-plain, second-lsl, second-by_register, summed}
+use Rattle.arm2_alu.proofs.ShiftValues.{shifted-asr_high}
 use Rattle.arm2_cpu.proofs.StepLaws.{step-data, step-mov_by_register, step-adds, step-branch, step-branch_link, step-mov_immediate, step-data_immediate, step-jump_register, step-swi}
 
 -- MOV Rd,#n, of a byte
@@ -69,7 +68,7 @@ shift_by_register s r bytes n by is_n is_by high small some few word =
 
 -- LDR R0,[R1,R2,LSL #2]: the word that an index of words leads to
 load_indexed : (s : Space) (r : Regs) (bytes : List ℕ) (base index : ℕ) → register r 1 ≡ base → register r 2 ≡ index
-    → base % 4 ≡ 0 → base + 4 * index < PC_END → s.allows (not r.svc) (base + 4 * index) ≡ true
+    → base % 4 ≡ 0 → base + 4 * index < 2 ^ 26 → s.allows (not r.svc) (base + 4 * index) ≡ true
     → read_word s bytes (not r.svc) r.pc ≡ Some 0xe7910102
     → cpu_step s r bytes ≡ goes (at_next (with_register r 0 (word_at s bytes (base + 4 * index)))) bytes
 unfolding word_of
@@ -98,7 +97,7 @@ two_registers : registers_in 0x4001 ≡ 0 ∷ 14 ∷ []
 unfolding registers_among
 two_registers = refl
 
-push : (s : Space) (r : Regs) (bytes : List ℕ) (top : ℕ) → register r 13 ≡ top → 8 ≤ top → top % 4 ≡ 0 → top < PC_END
+push : (s : Space) (r : Regs) (bytes : List ℕ) (top : ℕ) → register r 13 ≡ top → 8 ≤ top → top % 4 ≡ 0 → top < 2 ^ 26
     → s.allows (not r.svc) (top - 8) ≡ true → s.allows (not r.svc) (top - 4) ≡ true
     → read_word s bytes (not r.svc) r.pc ≡ Some 0xe92d4001
     → cpu_step s r bytes ≡ goes (at_next (with_register r 13 (top - 8))) (with_word s (with_word s bytes (top - 8) (register r 0)) (top - 4) (register r 14))
@@ -128,7 +127,7 @@ popped : registers_in 0x8003 ≡ 0 ∷ 1 ∷ 15 ∷ []
 unfolding registers_among
 popped = refl
 
-pop : (s : Space) (r : Regs) (bytes : List ℕ) (top : ℕ) → register r 13 ≡ top → top % 4 ≡ 0 → top + 12 < PC_END
+pop : (s : Space) (r : Regs) (bytes : List ℕ) (top : ℕ) → register r 13 ≡ top → top % 4 ≡ 0 → top + 12 < 2 ^ 26
     → s.allows (not r.svc) top ≡ true → s.allows (not r.svc) (top + 4) ≡ true → s.allows (not r.svc) (top + 8) ≡ true
     → read_word s bytes (not r.svc) r.pc ≡ Some 0xe8bd8003
     → cpu_step s r bytes ≡ goes (jumped (with_register (with_register (with_register r 13 (top + 12)) 0 (word_at s bytes top)) 1 (word_at s bytes (top + 4))) (word_at s bytes (top + 8))) bytes
@@ -189,7 +188,7 @@ add_checked s r bytes a b words first second fits outside add branch =
     let after = at_next (with_register flags 0 value) in
     let mode = svc-with_register flags 0 value ∙ svc-with_flags n z x.carry x.overflow r in
     let place = pc-with_register flags 0 value ∙ pc-with_flags n z x.carry x.overflow r in
-    let fetched = (λ i. read_word s bytes (not (mode i)) ((place i + 4) % PC_END)) ∙ branch in
+    let fetched = (λ i. read_word s bytes (not (mode i)) ((place i + 4) % 2 ^ 26)) ∙ branch in
     let overflowed = holds-at_pc 6 (with_register flags 0 value) (pc_ahead (with_register flags 0 value) 4) ∙ holds-with_register 6 flags 0 value ∙ holds-vs n z x.carry x.overflow r ∙ ap not outside in (
       step-adds s r bytes 14 false 0 0 1 a b (fetches_word (Data 14 false 4 true 0 0 1) (valid_by_test _ refl) add) (holds-always r) (plain_is_amount 1 (omega arith)) (omega arith)
           (first-register r 8 0 (omega arith) ∙ first) (ap (λ (y : Shifted). y.value) (second-plain r 1 (omega arith)) ∙ second),

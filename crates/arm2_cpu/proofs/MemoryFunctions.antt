@@ -3,7 +3,7 @@ use Rattle.std.proofs.Common.{◌≡◌, ◌≢◌, ℕ, ◌+◌, ◌*◌, ◌/�
 use Rattle.std.proofs.lemmas.Bool.{eqb-false}
 use Rattle.arm2_cpu.specs.Memory.{Space, byte_at, word_at, word_bytes, with_bytes, with_byte, with_word}
 use Rattle.arm2_cpu.proofs.MemoryLaws.{byte_kept, byte_written}
-use Rattle.arm2_cpu.proofs.RegisterLaws.{updated}
+use Rattle.arm2_alu.proofs.RegisterLaws.{updated}
 
 -- the byte at each address, and 0 below the memory
 abbrev pub bytes_of : Space → List ℕ → ℕ → ℕ

@@ -11,11 +11,11 @@ use Rattle.arm_isa.specs.Table.{class_of}
 use Rattle.arm_isa.specs.Words.{means, read_as, word_of, IsValid}
 use Rattle.arm_isa.proofs.RoundTrip.{means-word_of}
 use Rattle.arm2_cpu.specs.declared.event.CpuEvent.TheVariants as events
-use Rattle.arm2_cpu.specs.declared.regs.Regs.{Regs}
-use Rattle.arm2_cpu.specs.Conditions.{holds}
+use Rattle.arm2_alu.specs.declared.regs.Regs.{Regs}
+use Rattle.arm2_alu.specs.Conditions.{holds}
 use Rattle.arm2_cpu.specs.Memory.{Space, read_word}
 use Rattle.arm2_cpu.specs.Outcomes.{Stepped, with_memory, ran, trapped}
-use Rattle.arm2_cpu.specs.Registers.{at_next}
+use Rattle.arm2_alu.specs.Registers.{at_next}
 use Rattle.arm2_cpu.specs.Step.{class_step, instruction_step, word_step, fetched_step, cpu_step}
 use Rattle.arm2_cpu.specs.Unpredictable.{is_unpredictable}
 

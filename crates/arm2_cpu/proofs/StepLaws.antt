@@ -6,23 +6,23 @@ use Rattle.arm_isa.specs.Fields.{bits}
 use Rattle.arm_isa.specs.Immediates.{immediate_value}
 use Rattle.arm_isa.proofs.ImmediateLaws.{immediate_value-lt}
 use Rattle.arm2_cpu.specs.declared.event.CpuEvent.TheVariants as events
-use Rattle.arm2_cpu.specs.declared.operations.Computed.{Computed}
-use Rattle.arm2_cpu.specs.declared.operations.TheConstants.{SUB, ADD, CMP, MOV}
-use Rattle.arm2_cpu.specs.declared.regs.Regs.{Regs}
-use Rattle.arm2_cpu.specs.declared.regs.TheConstants.{R15}
-use Rattle.arm2_cpu.specs.declared.shifts.Shifted.{Shifted}
+use Rattle.arm2_alu.specs.declared.operations.Computed.{Computed}
+use Rattle.arm_isa.specs.Numbers.{SUB, ADD, CMP, MOV, R15}
+use Rattle.arm2_alu.specs.declared.regs.Regs.{Regs}
+use Rattle.arm2_alu.specs.declared.shifts.Shifted.{Shifted}
 use Rattle.arm2_cpu.specs.Branch.{branch_step, branch_target}
-use Rattle.arm2_cpu.specs.Conditions.{carry, overflow, holds}
-use Rattle.arm2_cpu.specs.Data.{flagged, loaded, tested, set_with_flags, concluded, data_step}
+use Rattle.arm2_alu.specs.Conditions.{carry, overflow, holds}
+use Rattle.arm2_alu.specs.Results.{flagged, loaded}
+use Rattle.arm2_cpu.specs.Data.{tested, set_with_flags, concluded, data_step}
 use Rattle.arm2_cpu.specs.Memory.{Space}
-use Rattle.arm2_cpu.specs.Operands.{by_register, ahead_of, first_operand, second_operand}
-use Rattle.arm2_cpu.specs.Operations.{is_test, logical, computed}
+use Rattle.arm2_alu.specs.Operands.{by_register, ahead_of, first_operand, second_operand}
+use Rattle.arm2_alu.specs.Operations.{is_test, logical, computed}
 use Rattle.arm2_cpu.specs.Outcomes.{with_memory, ran}
-use Rattle.arm2_cpu.specs.Registers.{register, with_register, r15, at_next, jumped}
+use Rattle.arm2_alu.specs.Registers.{register, with_register, r15, at_next, jumped}
 use Rattle.arm2_cpu.specs.Step.{class_step, cpu_step}
 use Rattle.arm2_cpu.specs.Unpredictable.{is_open_data, is_unpredictable}
 use Rattle.arm2_cpu.proofs.StepBasics.{Fetches, goes, step-skipped, step-by_class}
-use Rattle.arm2_cpu.proofs.ValueLaws.{not_r15, minus, value_of, compared, summed, value-computed, computed-cmp, computed-sub, computed-add, first-register, second-immediate, plain_is_amount, second-plain}
+use Rattle.arm2_alu.proofs.ValueLaws.{not_r15, minus, value_of, compared, summed, value-computed, computed-cmp, computed-sub, computed-add, first-register, second-immediate, plain_is_amount, second-plain}
 
 -- a register takes a value
 pub loaded-register : (r : Regs) (rd value : ℕ) → rd < 15 → loaded r rd value ≡ at_next (with_register r rd value)

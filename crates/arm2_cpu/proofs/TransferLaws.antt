@@ -5,25 +5,25 @@ use Rattle.std.proofs.lemmas.Bool.{ne_eqb}
 use Rattle.arm_isa.specs.declared.instruction.Instr.TheVariants.{Mul, Single, Block}
 use Rattle.arm_isa.specs.Fields.{bits, bit}
 use Rattle.arm_isa.specs.Immediates.{rotated}
-use Rattle.arm2_cpu.specs.declared.operations.Computed.{Computed}
-use Rattle.arm2_cpu.specs.declared.regs.Regs.{Regs}
-use Rattle.arm2_cpu.specs.declared.regs.TheConstants.{PC_END, R15}
-use Rattle.arm2_cpu.specs.declared.shifts.Shifted.{Shifted}
+use Rattle.arm2_alu.specs.declared.operations.Computed.{Computed}
+use Rattle.arm2_alu.specs.declared.regs.Regs.{Regs}
+use Rattle.arm_isa.specs.Numbers.{R15}
+use Rattle.arm2_alu.specs.declared.shifts.Shifted.{Shifted}
 use Rattle.arm2_cpu.specs.Access.{moved, offset_of, single_access, block_access, with_base_taking, can_use}
 use Rattle.arm2_cpu.specs.Block.{registers_in, low_registers_in, next_word, refused_word, stored_value, with_block, with_words, store_block, load_block, load_with_r15, block_step}
-use Rattle.arm2_cpu.specs.Conditions.{same, carry, overflow, holds}
-use Rattle.arm2_cpu.specs.Data.{flagged, loaded}
+use Rattle.arm2_alu.specs.Conditions.{same, carry, overflow, holds}
+use Rattle.arm2_alu.specs.Results.{flagged, loaded}
 use Rattle.arm2_cpu.specs.Memory.{Space, word_at, byte_at, with_word, with_byte, word_address}
 use Rattle.arm2_cpu.specs.Multiply.{product, multiplied, multiply_step}
-use Rattle.arm2_cpu.specs.Operands.{first_operand, whole_operand, amount_operand}
-use Rattle.arm2_cpu.specs.Registers.{register, with_banked, with_register, at_next, jumped}
-use Rattle.arm2_cpu.specs.Shifts.{shifted_by_field}
+use Rattle.arm2_alu.specs.Operands.{first_operand, whole_operand, amount_operand}
+use Rattle.arm2_alu.specs.Registers.{register, with_banked, with_register, at_next, jumped}
+use Rattle.arm2_alu.specs.Shifts.{shifted_by_field}
 use Rattle.arm2_cpu.specs.Single.{read_unit, with_unit, can_transfer, load_single, store_single, single_step}
 use Rattle.arm2_cpu.specs.Step.{class_step, cpu_step}
 use Rattle.arm2_cpu.specs.Unpredictable.{is_open_multiply, is_open_single, is_open_block, is_unpredictable}
 use Rattle.arm2_cpu.proofs.StepBasics.{Fetches, goes, step-by_class}
 use Rattle.arm2_cpu.proofs.StepLaws.{loaded-register}
-use Rattle.arm2_cpu.proofs.ValueLaws.{not_r15, first-register, whole-register, amount-shifted, amount-plain, amount-lsl}
+use Rattle.arm2_alu.proofs.ValueLaws.{not_r15, first-register, whole-register, amount-shifted, amount-plain, amount-lsl}
 
 -- ---- multiplication
 
@@ -113,15 +113,15 @@ whole_word s bytes at aligned =
     unturned : (w : ℕ) → rotated w (8 * 0) ≡ w
     unturned w = omega arith
 
-can_word : (s : Space) (at rn : ℕ) (user : Bool) (back : Option ℕ) → at % 4 ≡ 0 → at < PC_END → s.allows user at ≡ true → can_transfer s false (record { user = user; address = at; base = rn; written_back = back }) ≡ true
+can_word : (s : Space) (at rn : ℕ) (user : Bool) (back : Option ℕ) → at % 4 ≡ 0 → at < 2 ^ 26 → s.allows user at ≡ true → can_transfer s false (record { user = user; address = at; base = rn; written_back = back }) ≡ true
 unfolding can_transfer
 can_word s at rn user back aligned low allowed =
     let same : word_address at ≡ at = omega (arith, aligned) in
-    ap (can_use s user) same ∙ (λ i. lt-ltb at PC_END low i && allowed i)
+    ap (can_use s user) same ∙ (λ i. lt-ltb at (2 ^ 26) low i && allowed i)
 
-can_byte : (s : Space) (at rn : ℕ) (user : Bool) (back : Option ℕ) → at < PC_END → s.allows user at ≡ true → can_transfer s true (record { user = user; address = at; base = rn; written_back = back }) ≡ true
+can_byte : (s : Space) (at rn : ℕ) (user : Bool) (back : Option ℕ) → at < 2 ^ 26 → s.allows user at ≡ true → can_transfer s true (record { user = user; address = at; base = rn; written_back = back }) ≡ true
 unfolding can_transfer
-can_byte s at rn user back low allowed = (λ i. lt-ltb at PC_END low i && allowed i)
+can_byte s at rn user back low allowed = (λ i. lt-ltb at (2 ^ 26) low i && allowed i)
 
 load_done : (s : Space) (r : Regs) (bytes : List ℕ) (byte : Bool) (rd rn at : ℕ) (user : Bool) (back : Option ℕ) → can_transfer s byte (record { user = user; address = at; base = rn; written_back = back }) ≡ true
     → single_step s r bytes true byte rd (record { user = user; address = at; base = rn; written_back = back }) ≡ goes (loaded (with_base_taking back r rn) rd (read_unit s bytes byte at)) bytes
@@ -199,7 +199,7 @@ moved-down base offset enough small = omega (arith, enough, small)
 -- LDR Rd,[Rn,offset], of a whole word
 pub step-ldr : (s : Space) (r : Regs) (bytes : List ℕ) (cond : ℕ) (reg up : Bool) (rn rd offset at : ℕ)
     → Fetches s r bytes (Single cond reg true up false false true rn rd offset) → holds cond r ≡ true → is_open_offset reg offset ≡ false → rd < 15
-    → moved up (first_operand r 8 rn) (offset_of r reg offset) ≡ at → at % 4 ≡ 0 → at < PC_END → s.allows (not r.svc) at ≡ true
+    → moved up (first_operand r 8 rn) (offset_of r reg offset) ≡ at → at % 4 ≡ 0 → at < 2 ^ 26 → s.allows (not r.svc) at ≡ true
     → cpu_step s r bytes ≡ goes (at_next (with_register r rd (word_at s bytes at))) bytes
 step-ldr s r bytes cond reg up rn rd offset at f meets fine low place aligned small allowed =
     single_by_class s r bytes cond reg true up false false true rn rd offset f meets (λ i. fine i || false || false || false)
@@ -210,7 +210,7 @@ step-ldr s r bytes cond reg up rn rd offset at f meets fine low place aligned sm
 -- LDR PC,[Rn,offset]
 pub step-ldr_pc : (s : Space) (r : Regs) (bytes : List ℕ) (cond : ℕ) (reg up : Bool) (rn offset at : ℕ)
     → Fetches s r bytes (Single cond reg true up false false true rn 15 offset) → holds cond r ≡ true → is_open_offset reg offset ≡ false
-    → moved up (first_operand r 8 rn) (offset_of r reg offset) ≡ at → at % 4 ≡ 0 → at < PC_END → s.allows (not r.svc) at ≡ true
+    → moved up (first_operand r 8 rn) (offset_of r reg offset) ≡ at → at % 4 ≡ 0 → at < 2 ^ 26 → s.allows (not r.svc) at ≡ true
     → cpu_step s r bytes ≡ goes (jumped r (word_at s bytes at)) bytes
 unfolding loaded
 step-ldr_pc s r bytes cond reg up rn offset at f meets fine place aligned small allowed =
@@ -226,7 +226,7 @@ read_byte_unit s bytes at = refl
 -- LDRB Rd,[Rn,offset]
 pub step-ldrb : (s : Space) (r : Regs) (bytes : List ℕ) (cond : ℕ) (reg up : Bool) (rn rd offset at : ℕ)
     → Fetches s r bytes (Single cond reg true up true false true rn rd offset) → holds cond r ≡ true → is_open_offset reg offset ≡ false → rd < 15
-    → moved up (first_operand r 8 rn) (offset_of r reg offset) ≡ at → at < PC_END → s.allows (not r.svc) at ≡ true
+    → moved up (first_operand r 8 rn) (offset_of r reg offset) ≡ at → at < 2 ^ 26 → s.allows (not r.svc) at ≡ true
     → cpu_step s r bytes ≡ goes (at_next (with_register r rd (byte_at s bytes at))) bytes
 step-ldrb s r bytes cond reg up rn rd offset at f meets fine low place small allowed =
     single_by_class s r bytes cond reg true up true false true rn rd offset f meets (λ i. fine i || false || false || not_r15 rd low i)
@@ -237,7 +237,7 @@ step-ldrb s r bytes cond reg up rn rd offset at f meets fine low place small all
 -- STR Rd,[Rn,offset], to a whole word
 pub step-str : (s : Space) (r : Regs) (bytes : List ℕ) (cond : ℕ) (reg up : Bool) (rn rd offset at : ℕ)
     → Fetches s r bytes (Single cond reg true up false false false rn rd offset) → holds cond r ≡ true → is_open_offset reg offset ≡ false → rd < 15
-    → moved up (first_operand r 8 rn) (offset_of r reg offset) ≡ at → at % 4 ≡ 0 → at < PC_END → s.allows (not r.svc) at ≡ true
+    → moved up (first_operand r 8 rn) (offset_of r reg offset) ≡ at → at % 4 ≡ 0 → at < 2 ^ 26 → s.allows (not r.svc) at ≡ true
     → cpu_step s r bytes ≡ goes (at_next r) (with_word s bytes at (register r rd))
 step-str s r bytes cond reg up rn rd offset at f meets fine low place aligned small allowed =
     single_by_class s r bytes cond reg true up false false false rn rd offset f meets (λ i. fine i || false || false || false)
@@ -248,7 +248,7 @@ step-str s r bytes cond reg up rn rd offset at f meets fine low place aligned sm
 -- STRB Rd,[Rn,offset]
 pub step-strb : (s : Space) (r : Regs) (bytes : List ℕ) (cond : ℕ) (reg up : Bool) (rn rd offset at : ℕ)
     → Fetches s r bytes (Single cond reg true up true false false rn rd offset) → holds cond r ≡ true → is_open_offset reg offset ≡ false → rd < 15
-    → moved up (first_operand r 8 rn) (offset_of r reg offset) ≡ at → at < PC_END → s.allows (not r.svc) at ≡ true
+    → moved up (first_operand r 8 rn) (offset_of r reg offset) ≡ at → at < 2 ^ 26 → s.allows (not r.svc) at ≡ true
     → cpu_step s r bytes ≡ goes (at_next r) (with_byte s bytes at (register r rd % 2 ^ 8))
 step-strb s r bytes cond reg up rn rd offset at f meets fine low place small allowed =
     single_by_class s r bytes cond reg true up true false false rn rd offset f meets (λ i. fine i || false || false || false)
@@ -259,7 +259,7 @@ step-strb s r bytes cond reg up rn rd offset at f meets fine low place small all
 -- LDR Rd,[Rn,offset]!
 pub step-ldr_writeback : (s : Space) (r : Regs) (bytes : List ℕ) (cond : ℕ) (reg up : Bool) (rn rd offset at : ℕ)
     → Fetches s r bytes (Single cond reg true up false true true rn rd offset) → holds cond r ≡ true → is_open_offset reg offset ≡ false → rn < 15 → rd < 15 → (rd == rn) ≡ false
-    → moved up (register r rn) (offset_of r reg offset) ≡ at → at % 4 ≡ 0 → at < PC_END → s.allows (not r.svc) at ≡ true
+    → moved up (register r rn) (offset_of r reg offset) ≡ at → at % 4 ≡ 0 → at < 2 ^ 26 → s.allows (not r.svc) at ≡ true
     → cpu_step s r bytes ≡ goes (at_next (with_register (with_register r rn at) rd (word_at s bytes at))) bytes
 step-ldr_writeback s r bytes cond reg up rn rd offset at f meets fine base low apart place aligned small allowed =
     single_by_class s r bytes cond reg true up false true true rn rd offset f meets (λ i. fine i || not_r15 rn base i || apart i || false)
@@ -270,7 +270,7 @@ step-ldr_writeback s r bytes cond reg up rn rd offset at f meets fine base low a
 -- STR Rd,[Rn,offset]!
 pub step-str_writeback : (s : Space) (r : Regs) (bytes : List ℕ) (cond : ℕ) (reg up : Bool) (rn rd offset at : ℕ)
     → Fetches s r bytes (Single cond reg true up false true false rn rd offset) → holds cond r ≡ true → is_open_offset reg offset ≡ false → rn < 15 → rd < 15
-    → moved up (register r rn) (offset_of r reg offset) ≡ at → at % 4 ≡ 0 → at < PC_END → s.allows (not r.svc) at ≡ true
+    → moved up (register r rn) (offset_of r reg offset) ≡ at → at % 4 ≡ 0 → at < 2 ^ 26 → s.allows (not r.svc) at ≡ true
     → cpu_step s r bytes ≡ goes (at_next (with_register r rn at)) (with_word s bytes at (register r rd))
 step-str_writeback s r bytes cond reg up rn rd offset at f meets fine base low place aligned small allowed =
     single_by_class s r bytes cond reg true up false true false rn rd offset f meets (λ i. fine i || not_r15 rn base i || false || false)
@@ -281,7 +281,7 @@ step-str_writeback s r bytes cond reg up rn rd offset at f meets fine base low p
 -- LDRB Rd,[Rn,offset]! and STRB Rd,[Rn,offset]!
 pub step-ldrb_writeback : (s : Space) (r : Regs) (bytes : List ℕ) (cond : ℕ) (reg up : Bool) (rn rd offset at : ℕ)
     → Fetches s r bytes (Single cond reg true up true true true rn rd offset) → holds cond r ≡ true → is_open_offset reg offset ≡ false → rn < 15 → rd < 15 → (rd == rn) ≡ false
-    → moved up (register r rn) (offset_of r reg offset) ≡ at → at < PC_END → s.allows (not r.svc) at ≡ true
+    → moved up (register r rn) (offset_of r reg offset) ≡ at → at < 2 ^ 26 → s.allows (not r.svc) at ≡ true
     → cpu_step s r bytes ≡ goes (at_next (with_register (with_register r rn at) rd (byte_at s bytes at))) bytes
 step-ldrb_writeback s r bytes cond reg up rn rd offset at f meets fine base low apart place small allowed =
     single_by_class s r bytes cond reg true up true true true rn rd offset f meets (λ i. fine i || not_r15 rn base i || apart i || not_r15 rd low i)
@@ -291,7 +291,7 @@ step-ldrb_writeback s r bytes cond reg up rn rd offset at f meets fine base low 
 
 pub step-strb_writeback : (s : Space) (r : Regs) (bytes : List ℕ) (cond : ℕ) (reg up : Bool) (rn rd offset at : ℕ)
     → Fetches s r bytes (Single cond reg true up true true false rn rd offset) → holds cond r ≡ true → is_open_offset reg offset ≡ false → rn < 15 → rd < 15
-    → moved up (register r rn) (offset_of r reg offset) ≡ at → at < PC_END → s.allows (not r.svc) at ≡ true
+    → moved up (register r rn) (offset_of r reg offset) ≡ at → at < 2 ^ 26 → s.allows (not r.svc) at ≡ true
     → cpu_step s r bytes ≡ goes (at_next (with_register r rn at)) (with_byte s bytes at (register r rd % 2 ^ 8))
 step-strb_writeback s r bytes cond reg up rn rd offset at f meets fine base low place small allowed =
     single_by_class s r bytes cond reg true up true true false rn rd offset f meets (λ i. fine i || not_r15 rn base i || false || false)
@@ -302,7 +302,7 @@ step-strb_writeback s r bytes cond reg up rn rd offset at f meets fine base low 
 -- LDR Rd,[Rn],offset
 pub step-ldr_behind : (s : Space) (r : Regs) (bytes : List ℕ) (cond : ℕ) (reg up : Bool) (rn rd offset at next : ℕ)
     → Fetches s r bytes (Single cond reg false up false false true rn rd offset) → holds cond r ≡ true → is_open_offset reg offset ≡ false → rn < 15 → rd < 15 → (rd == rn) ≡ false
-    → register r rn ≡ at → moved up at (offset_of r reg offset) ≡ next → at % 4 ≡ 0 → at < PC_END → s.allows (not r.svc) at ≡ true
+    → register r rn ≡ at → moved up at (offset_of r reg offset) ≡ next → at % 4 ≡ 0 → at < 2 ^ 26 → s.allows (not r.svc) at ≡ true
     → cpu_step s r bytes ≡ goes (at_next (with_register (with_register r rn next) rd (word_at s bytes at))) bytes
 step-ldr_behind s r bytes cond reg up rn rd offset at next f meets fine base low apart place moves aligned small allowed =
     single_by_class s r bytes cond reg false up false false true rn rd offset f meets (λ i. fine i || not_r15 rn base i || apart i || false)
@@ -313,7 +313,7 @@ step-ldr_behind s r bytes cond reg up rn rd offset at next f meets fine base low
 -- STR Rd,[Rn],offset
 pub step-str_behind : (s : Space) (r : Regs) (bytes : List ℕ) (cond : ℕ) (reg up : Bool) (rn rd offset at next : ℕ)
     → Fetches s r bytes (Single cond reg false up false false false rn rd offset) → holds cond r ≡ true → is_open_offset reg offset ≡ false → rn < 15 → rd < 15
-    → register r rn ≡ at → moved up at (offset_of r reg offset) ≡ next → at % 4 ≡ 0 → at < PC_END → s.allows (not r.svc) at ≡ true
+    → register r rn ≡ at → moved up at (offset_of r reg offset) ≡ next → at % 4 ≡ 0 → at < 2 ^ 26 → s.allows (not r.svc) at ≡ true
     → cpu_step s r bytes ≡ goes (at_next (with_register r rn next)) (with_word s bytes at (register r rd))
 step-str_behind s r bytes cond reg up rn rd offset at next f meets fine base low place moves aligned small allowed =
     single_by_class s r bytes cond reg false up false false false rn rd offset f meets (λ i. fine i || not_r15 rn base i || false || false)
@@ -324,7 +324,7 @@ step-str_behind s r bytes cond reg up rn rd offset at next f meets fine base low
 -- LDRB Rd,[Rn],offset and STRB Rd,[Rn],offset
 pub step-ldrb_behind : (s : Space) (r : Regs) (bytes : List ℕ) (cond : ℕ) (reg up : Bool) (rn rd offset at next : ℕ)
     → Fetches s r bytes (Single cond reg false up true false true rn rd offset) → holds cond r ≡ true → is_open_offset reg offset ≡ false → rn < 15 → rd < 15 → (rd == rn) ≡ false
-    → register r rn ≡ at → moved up at (offset_of r reg offset) ≡ next → at < PC_END → s.allows (not r.svc) at ≡ true
+    → register r rn ≡ at → moved up at (offset_of r reg offset) ≡ next → at < 2 ^ 26 → s.allows (not r.svc) at ≡ true
     → cpu_step s r bytes ≡ goes (at_next (with_register (with_register r rn next) rd (byte_at s bytes at))) bytes
 step-ldrb_behind s r bytes cond reg up rn rd offset at next f meets fine base low apart place moves small allowed =
     single_by_class s r bytes cond reg false up true false true rn rd offset f meets (λ i. fine i || not_r15 rn base i || apart i || not_r15 rd low i)
@@ -334,7 +334,7 @@ step-ldrb_behind s r bytes cond reg up rn rd offset at next f meets fine base lo
 
 pub step-strb_behind : (s : Space) (r : Regs) (bytes : List ℕ) (cond : ℕ) (reg up : Bool) (rn rd offset at next : ℕ)
     → Fetches s r bytes (Single cond reg false up true false false rn rd offset) → holds cond r ≡ true → is_open_offset reg offset ≡ false → rn < 15 → rd < 15
-    → register r rn ≡ at → moved up at (offset_of r reg offset) ≡ next → at < PC_END → s.allows (not r.svc) at ≡ true
+    → register r rn ≡ at → moved up at (offset_of r reg offset) ≡ next → at < 2 ^ 26 → s.allows (not r.svc) at ≡ true
     → cpu_step s r bytes ≡ goes (at_next (with_register r rn next)) (with_byte s bytes at (register r rd % 2 ^ 8))
 step-strb_behind s r bytes cond reg up rn rd offset at next f meets fine base low place moves small allowed =
     single_by_class s r bytes cond reg false up true false false rn rd offset f meets (λ i. fine i || not_r15 rn base i || false || false)
@@ -436,12 +436,12 @@ pub refused-none : (s : Space) (user : Bool) (at : ℕ) → refused_word 0 s use
 unfolding refused_word
 refused-none s user at = refl
 
-pub refused-more : (k : ℕ) (s : Space) (user : Bool) (at : ℕ) → at < PC_END → s.allows user at ≡ true → refused_word k s user (next_word at) ≡ None → refused_word (suc k) s user at ≡ None
+pub refused-more : (k : ℕ) (s : Space) (user : Bool) (at : ℕ) → at < 2 ^ 26 → s.allows user at ≡ true → refused_word k s user (next_word at) ≡ None → refused_word (suc k) s user at ≡ None
 unfolding refused_word
-refused-more k s user at low allowed rest = rw (lt-ltb at PC_END low, allowed) rest
+refused-more k s user at low allowed rest = rw (lt-ltb at (2 ^ 26) low, allowed) rest
 
 -- a block whose words may all be used
-pub refused-range : (k : ℕ) (s : Space) (user : Bool) (at : ℕ) → at + 4 * k ≤ PC_END → ((i : ℕ) → i < k → s.allows user (at + 4 * i) ≡ true) → refused_word k s user at ≡ None
+pub refused-range : (k : ℕ) (s : Space) (user : Bool) (at : ℕ) → at + 4 * k ≤ (2 ^ 26) → ((i : ℕ) → i < k → s.allows user (at + 4 * i) ≡ true) → refused_word k s user at ≡ None
 refused-range zero s user at low allowed = refused-none s user at
 refused-range (suc k) s user at low allowed =
     let behind : next_word at ≡ at + 4 = omega (arith, low) in

@@ -2,13 +2,13 @@
 use Rattle.std.specs.Prelude.{ℕ, zero, suc, ◌+◌, ◌*◌, ◌%◌, ◌^◌, ◌==◌, ◌&&◌, not, Bool, false, if◌then◌else◌, List, [], ◌∷◌, length, Option, Some, None}
 use Rattle.bv_run.specs.declared.report.Trap.TheVariants as traps
 use Rattle.arm2_cpu.specs.declared.access.Access.{Access}
-use Rattle.arm2_cpu.specs.declared.regs.Regs.{Regs}
-use Rattle.arm2_cpu.specs.declared.regs.TheConstants.{R15}
+use Rattle.arm2_alu.specs.declared.regs.Regs.{Regs}
+use Rattle.arm_isa.specs.Numbers.{R15}
 use Rattle.arm2_cpu.specs.Access.{with_base, can_use, data_trapped}
 use Rattle.arm_isa.specs.Fields.{bit}
 use Rattle.arm2_cpu.specs.Memory.{Space, word_at, with_word}
 use Rattle.arm2_cpu.specs.Outcomes.{Done, Stepped, with_memory, ran, trapped}
-use Rattle.arm2_cpu.specs.Registers.{banked, with_banked, r15, at_next, jumped, takes_psr, with_psr}
+use Rattle.arm2_alu.specs.Registers.{banked, with_banked, r15, at_next, jumped, takes_psr, with_psr}
 
 -- the registers of a list, among so many from n on: those whose bit is 1, rising
 unfoldable pub registers_among : ℕ → ℕ → ℕ → List ℕ

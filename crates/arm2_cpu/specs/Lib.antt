@@ -1,10 +1,5 @@
 pub mod Memory
-pub mod Registers
-pub mod Conditions
-pub mod Shifts
-pub mod Operations
 pub mod Outcomes
-pub mod Operands
 pub mod Data
 pub mod Multiply
 pub mod Branch

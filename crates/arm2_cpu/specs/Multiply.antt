@@ -1,10 +1,10 @@
 -- MUL and MLA (VL86C010 (ARM2) data manual, multiply and multiply-accumulate).
 use Rattle.std.specs.Prelude.{ℕ, ◌+◌, ◌*◌, ◌%◌, ◌^◌, Bool, if◌then◌else◌}
-use Rattle.arm2_cpu.specs.declared.regs.Regs.{Regs}
-use Rattle.arm2_cpu.specs.Conditions.{carry, overflow}
-use Rattle.arm2_cpu.specs.Data.{flagged}
+use Rattle.arm2_alu.specs.declared.regs.Regs.{Regs}
+use Rattle.arm2_alu.specs.Conditions.{carry, overflow}
+use Rattle.arm2_alu.specs.Results.{flagged}
 use Rattle.arm2_cpu.specs.Outcomes.{Done, ran}
-use Rattle.arm2_cpu.specs.Registers.{register, with_register, at_next}
+use Rattle.arm2_alu.specs.Registers.{register, with_register, at_next}
 
 -- the low 32 bits of Rm times Rs, and of Rn more for MLA
 unfoldable pub product : Regs → Bool → ℕ → ℕ → ℕ → ℕ

@@ -3,11 +3,11 @@ use Rattle.std.specs.Prelude.{ℕ, ◌==◌, ◌&&◌, ◌||◌, not, Bool, fals
 use Rattle.arm_isa.specs.Fields.{bits, bit}
 use Rattle.arm_isa.specs.declared.instruction.Instr.{Instr}
 use Rattle.arm_isa.specs.declared.instruction.Instr.TheVariants.{Data, Mul, Single, Block, Branch, Swi, Undefined}
-use Rattle.arm2_cpu.specs.declared.regs.TheConstants.{R15}
+use Rattle.arm_isa.specs.Numbers.{R15}
 use Rattle.arm2_cpu.specs.Access.{writes_back}
 use Rattle.arm2_cpu.specs.Block.{uses_user_bank}
-use Rattle.arm2_cpu.specs.Operands.{by_register}
-use Rattle.arm2_cpu.specs.Operations.{is_test}
+use Rattle.arm2_alu.specs.Operands.{by_register}
+use Rattle.arm2_alu.specs.Operations.{is_test}
 
 -- data processing: a test without S, or R15 as the amount of a shift
 abbrev pub is_open_data : Bool → ℕ → Bool → ℕ → Bool

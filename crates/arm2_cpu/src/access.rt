@@ -1,12 +1,7 @@
-ghost use Rattle.std.specs.Prelude.{◌≡◌, ◌<◌, ◌%◌};
-ghost use Rattle.arm2_cpu.specs.Access.{moved, writes_back, offset_of, single_access, block_access};
-ghost use Rattle.arm2_cpu.specs.Registers.{IsValidRegs};
+ghost use Rattle.std.specs.Prelude.{◌≡◌, ◌<◌, ◌%◌, ◌^◌};
+ghost use Rattle.arm2_cpu.specs.Access.{moved, with_base, writes_back, offset_of, single_access, block_access};
 
-use crate::event::CpuEvent;
-use crate::operands::amount_operand;
-use crate::regs::Regs;
-use arm_isa::OPERANDS;
-use bv_run::Trap;
+use arm2_alu::{Regs, amount_operand};
 
 /// Which address a transfer begins at, and what its base register takes.
 #[derive(Clone, Copy)]
@@ -41,8 +36,7 @@ pub(crate) fn writes_back(pre: bool, wb: bool) -> bool
 
 #[tactic(auto, unfolding(crate::specs::Access::offset_of))]
 fn offset_of(regs: &Regs, reg: bool, offset: u16) -> u32
-    requires valid { IsValidRegs regs.now }
-    requires offset { offset < OPERANDS }
+    requires { offset < 2 ^ 12 }
     ensures { result ≡ offset_of regs.now reg offset }
 {
     if reg {
@@ -63,8 +57,7 @@ pub(crate) fn single_access(
     rn: u8,
     offset: u16,
 ) -> Access
-    requires valid { IsValidRegs regs.now }
-    requires offset { offset < OPERANDS }
+    requires { offset < 2 ^ 12 }
     ensures { result ≡ single_access regs.now reg pre up wb rn offset }
 {
     let base = regs.first_operand(8, rn);
@@ -100,28 +93,12 @@ pub(crate) fn block_access(regs: &Regs, pre: bool, up: bool, wb: bool, rn: u8, c
     }
 }
 
-impl Regs {
-    ghost use Rattle.std.specs.Prelude.{◌≡◌};
-    ghost use Rattle.arm2_cpu.specs.Access.{with_base, data_trapped};
-
-    /// Gives a transfer's base register what it takes.
-    pub(crate) fn write_base(&mut self, access: &Access)
-        requires { IsValidRegs self.old }
-        ensures value { self.new ≡ with_base self.old access.now }
-        ensures valid { IsValidRegs self.new }
-    {
-        if let Some(value) = access.written_back {
-            self.set_register(access.base, value);
-        }
-    }
-
-    /// The trap of a refused access.
-    pub(crate) fn data_trap(&self, address: u32) -> CpuEvent
-        ensures { record { event = result; regs = self.now } ≡ data_trapped address self.now }
-    {
-        CpuEvent::Trap {
-            kind: Trap::Data,
-            address,
-        }
+/// Gives a transfer's base register what it takes.
+#[inline]
+pub(crate) fn write_base(regs: &mut Regs, access: &Access)
+    ensures { regs.new ≡ with_base regs.old access.now }
+{
+    if let Some(value) = access.written_back {
+        regs.set_register(access.base, value);
     }
 }

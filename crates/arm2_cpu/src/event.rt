@@ -1,3 +1,9 @@
+//! What one instruction comes to.
+ghost use Rattle.std.specs.Prelude.{◌≡◌};
+ghost use Rattle.arm2_cpu.specs.Access.{data_trapped};
+ghost use Rattle.arm2_cpu.specs.Outcomes.{trapped};
+
+use arm2_alu::Regs;
 use bv_run::Trap;
 
 /// What one instruction came to.
@@ -14,4 +20,24 @@ pub enum CpuEvent {
         /// The refused address of an access to memory (`Trap::Data`), otherwise the address of the instruction.
         address: u32,
     },
+}
+
+/// The trap of an instruction that isn't carried out.
+pub(crate) fn trap(regs: &Regs, kind: Trap) -> CpuEvent
+    ensures { record { event = result; regs = regs.now } ≡ trapped kind regs.now }
+{
+    CpuEvent::Trap {
+        kind,
+        address: regs.pc.address(),
+    }
+}
+
+/// The trap of a refused access.
+pub(crate) fn data_trap(regs: &Regs, address: u32) -> CpuEvent
+    ensures { record { event = result; regs = regs.now } ≡ data_trapped address regs.now }
+{
+    CpuEvent::Trap {
+        kind: Trap::Data,
+        address,
+    }
 }

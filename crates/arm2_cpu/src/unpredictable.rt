@@ -1,17 +1,15 @@
-ghost use Rattle.std.specs.Prelude.{◌≡◌, ◌<◌};
+ghost use Rattle.std.specs.Prelude.{◌≡◌, ◌<◌, ◌^◌};
 ghost use Rattle.arm_isa.specs.Words.{Fits};
 ghost use Rattle.arm2_cpu.specs.Block.{uses_user_bank};
 ghost use Rattle.arm2_cpu.specs.Unpredictable.{is_open_data, is_open_multiply, is_open_single, is_open_block, is_unpredictable};
 
 use crate::access::writes_back;
-use crate::conditions::has_bit;
-use crate::operands::{is_by_register, register_at};
-use crate::operations::is_test;
-use crate::regs::R15;
-use arm_isa::{Instr, NIBBLES, OPERANDS};
+use arm_isa::numbers::R15;
+use arm_isa::{Instr, bit};
+use arm2_alu::{is_by_register, is_test, register_at};
 
 fn is_open_data(imm: bool, op: u8, s: bool, op2: u16) -> bool
-    requires { op2 < OPERANDS }
+    requires { op2 < 2 ^ 12 }
     ensures { result ≡ is_open_data imm op s op2 }
 {
     (is_test(op) && !s) || (is_by_register(imm, op2) && register_at(op2, 8) == R15)
@@ -33,7 +31,7 @@ fn is_open_single(
     rd: u8,
     offset: u16,
 ) -> bool
-    requires { offset < OPERANDS }
+    requires { offset < 2 ^ 12 }
     ensures { result ≡ is_open_single reg pre byte wb load rn rd offset }
 {
     (reg && register_at(offset, 0) == R15)
@@ -45,16 +43,16 @@ fn is_open_single(
 fn uses_user_bank(psr: bool, load: bool, list: u16) -> bool
     ensures { result ≡ uses_user_bank psr load list }
 {
-    psr && !(load && has_bit(list.into(), 15))
+    psr && !(load && bit(list.into(), 15))
 }
 
 fn is_open_block(psr: bool, wb: bool, load: bool, rn: u8, list: u16) -> bool
-    requires { rn < NIBBLES }
+    requires { rn < 2 ^ 4 }
     ensures { result ≡ is_open_block psr wb load rn list }
 {
     list == 0
         || rn == R15
-        || (wb && (has_bit(list.into(), rn.into()) || uses_user_bank(psr, load, list)))
+        || (wb && (bit(list.into(), rn.into()) || uses_user_bank(psr, load, list)))
 }
 
 #[tactic(auto, unfolding(crate::specs::Unpredictable::is_unpredictable))]

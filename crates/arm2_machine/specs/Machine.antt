@@ -8,7 +8,7 @@ use Rattle.bv_run.specs.declared.report.Trap.{Trap}
 use Rattle.bv_run.specs.declared.report.Trap.TheVariants as traps
 use Rattle.bv_base.specs.Bytes.{zeros}
 use Rattle.bv_run.specs.Runs.{Turn, Goes, Ends, End, Broken}
-use Rattle.arm2_cpu.specs.declared.regs.Regs.{Regs}
+use Rattle.arm2_alu.specs.declared.regs.Regs.{Regs}
 use Rattle.arm2_cpu.specs.Memory.{Space, IsLawful, read_word}
 use Rattle.arm2_cpu.specs.Window.{window}
 use Rattle.arm2_cpu.specs.WindowLaws.{window-lawful}

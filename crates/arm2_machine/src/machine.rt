@@ -1,12 +1,12 @@
 //! The board's machine: the processor with the board's RAM, and the input that is left. What it does at a trap is here; its
 //! calls are in `swi`, and a step of it is in `step`.
-ghost use Rattle.std.specs.Prelude.{◌≡◌, ◌%◌, ◌<◌, ◌≤◌, length, IfOk};
+ghost use Rattle.std.specs.Prelude.{◌≡◌, ◌%◌, ◌^◌, ◌<◌, ◌≤◌, length, IfOk};
 
 use crate::input::Input;
 use crate::ram::BoardRam;
 use crate::reports;
 use crate::step::{Output, StepOutcome};
-use arm2_cpu::{PC_END, Regs};
+use arm2_cpu::{Pc, Regs};
 use bv_base::{IMAGE_START, IMAGE_WORDS, NoMemory, TRAP_ENTRY};
 use bv_run::Trap;
 use std::alloc::Global;
@@ -21,7 +21,6 @@ pub struct Machine {
 }
 
 impl Model for Machine {
-    ghost use Rattle.arm2_cpu.specs.Registers.{IsValidRegs};
     ghost use Rattle.arm2_machine.specs.Machine as machine;
 
     ghost Value = { machine.Machine };
@@ -29,21 +28,7 @@ impl Model for Machine {
     ghost coded = { machine.machine_code };
 
     ghost view = { λ m. record { regs = m.regs; ram = m.ram; input = m.input } };
-
-    ghost invariant = { λ m. IsValidRegs m.regs };
 }
-
-/// The registers at the start of a run: all 0, no flag set, in supervisor mode at the image's first word.
-const FIRST_REGS: Regs = Regs {
-    low: [0; 13],
-    user13: 0,
-    user14: 0,
-    svc13: 0,
-    svc14: 0,
-    pc: IMAGE_START,
-    psr: 0,
-    svc: true,
-};
 
 impl Machine {
     ghost use Rattle.arm2_machine.specs.Machine.{arena_of, loaded, entered, refused, trapped};
@@ -56,7 +41,7 @@ impl Machine {
     {
         let ram = BoardRam::load(alloc, words)?;
         Ok(Machine {
-            regs: FIRST_REGS,
+            regs: Regs::starting_at(Pc::of(IMAGE_START)),
             ram,
             input: Input::new(input),
         })
@@ -72,11 +57,11 @@ impl Machine {
     /// Goes to the supervisor, at an entry.
     pub(crate) fn enter(&mut self, entry: u32)
         requires aligned { entry % 4 ≡ 0 }
-        requires within { entry < PC_END }
+        requires within { entry < 2 ^ 26 }
         ensures { self.new ≡ record self.old { regs = entered self.old.regs entry } }
     {
         self.regs.svc = true;
-        self.regs.pc = entry;
+        self.regs.pc = Pc::of(entry);
     }
 
     /// Takes a trap: user mode goes to the supervisor, and the supervisor breaks the run.
@@ -93,12 +78,10 @@ impl Machine {
     }
 
     /// Takes the trap of a call that isn't there, whose instruction stands at the address.
-    pub(crate) fn refuse(&mut self, at: u32) -> StepOutcome
-        requires aligned { at % 4 ≡ 0 }
-        requires within { at < PC_END }
+    pub(crate) fn refuse(&mut self, at: Pc) -> StepOutcome
         ensures { refused self.old at ≡ turn_of result self.new }
     {
         self.regs.pc = at;
-        self.trap(Trap::Swi, at)
+        self.trap(Trap::Swi, at.address())
     }
 }

@@ -34,7 +34,7 @@ impl Machine {
     pub(crate) fn step(&mut self) -> StepOutcome
         ensures { board_step self.old ≡ turn_of result self.new }
     {
-        if !self.regs.svc && self.regs.pc == PAD {
+        if !self.regs.svc && self.regs.pc.address() == PAD {
             self.enter(RETURN_ENTRY);
             return StepOutcome::Continued(Output::Nothing);
         }

@@ -39,7 +39,7 @@ fn set_up<E: RamEnd>(ram: &mut StepRam<E>, case: &Case) -> bool {
         }
     }
     match case.code {
-        Some(code) => ram.store(case.before.pc, code),
+        Some(code) => ram.store(case.before.pc.address(), code),
         None => true,
     }
 }
@@ -67,7 +67,7 @@ fn wrote_as_told<E: RamEnd>(ram: &StepRam<E>, told: &[Word]) -> bool {
 
 /// Makes the memory one of zeros again, after a step that went as it is told.
 fn clear<E: RamEnd>(ram: &mut StepRam<E>, case: &Case) {
-    ram.store(case.before.pc, 0);
+    ram.store(case.before.pc.address(), 0);
     for word in case.words.as_slice() {
         ram.store(word.address, 0);
     }

@@ -1,4 +1,5 @@
 pub mod Fields
+pub mod Numbers
 pub mod Table
 pub mod Words
 pub mod Valid

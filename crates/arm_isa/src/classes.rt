@@ -1,5 +1,6 @@
 ghost use Rattle.std.specs.Prelude.{◌≡◌, if◌then◌else◌};
 ghost use Rattle.arm_isa.specs.declared.classes.Class.TheVariants.{Undefined};
+ghost use Rattle.arm_isa.specs.Fields.{bits};
 ghost use Rattle.arm_isa.specs.Table.{is_multiply, class_of};
 
 use crate::fields::{bit, bits, has_bits_7_and_4};
@@ -36,15 +37,27 @@ fn undefined_if(set: bool, class: Class) -> Class
     if set { Class::Undefined } else { class }
 }
 
+/// The class of a word whose bits 27 to 25 are 0: data processing with a register operand, unless bits 7 and 4 are set.
+fn register_class(word: u32) -> Class
+    requires { bits word 27 25 ≡ 0 }
+    ensures { result ≡ class_of word }
+{
+    if !has_bits_7_and_4(word) {
+        Class::Data
+    } else if is_multiply(word) {
+        Class::Multiply
+    } else {
+        Class::Undefined
+    }
+}
+
 /// The class of a word, by the bits that all words of the class share.
+#[inline]
 pub fn class_of(word: u32) -> Class
     ensures { result ≡ class_of word }
 {
-    if is_multiply(word) {
-        return Class::Multiply;
-    }
     match bits(word, 27, 25) {
-        0b000 => undefined_if(has_bits_7_and_4(word), Class::Data),
+        0b000 => register_class(word),
         0b001 => Class::Data,
         0b010 => Class::Single,
         0b011 => undefined_if(bit(word, 4), Class::Single),

@@ -1,24 +1,15 @@
 //! The processor over a small memory. The steps that were worked by hand are in the input of the program `arm2_vectors`.
 
-ghost use Rattle.arm2_cpu.specs.Registers.{IsValidRegs};
-
 use crate::small_ram::{BASE, small_ram};
-use arm2_cpu::{CpuEvent, Regs, step_cpu};
+use arm2_cpu::{CpuEvent, Pc, Regs, step_cpu};
 
 /// The registers of user mode before an instruction at the memory's start. R1 is an address in the memory.
-fn registers() -> Regs
-    ensures { IsValidRegs result }
-{
-    Regs {
-        low: [0x1234_5678, 0x8010, 0, 0, 0, 0, 0, 0, 0, 0, 0, 0, 0],
-        user13: 0,
-        user14: 0,
-        svc13: 0,
-        svc14: 0,
-        pc: BASE,
-        psr: 0,
-        svc: false,
-    }
+fn registers() -> Regs {
+    let mut regs = Regs::starting_at(Pc::of(BASE));
+    regs.svc = false;
+    regs.low[0] = 0x1234_5678;
+    regs.low[1] = 0x8010;
+    regs
 }
 
 // A load and a store of a byte.
@@ -28,7 +19,7 @@ fn loads_and_stores(rt: HostRuntime) {
     let mut regs = registers();
     let event = step_cpu(&mut regs, &mut small_ram(0xe591_0000, 0x4433_2211, 0));
     assert_eq!(rt; event, CpuEvent::Ran);
-    assert_eq!(rt; (regs.low[0], regs.pc), (0x4433_2211, 0x8004));
+    assert_eq!(rt; (regs.low[0], regs.pc.address()), (0x4433_2211, 0x8004));
 
     // STRB R0,[R1].
     let mut regs = registers();

@@ -1,22 +1,14 @@
 use Rattle.std.proofs.Common.{◌≡◌, ◌∙◌, sym, ap, Bool, true, false, not, if◌then◌else◌, refl, arith}
 use Rattle.arm_isa.specs.declared.classes.Class.{Class}
-use Rattle.arm_isa.specs.declared.classes.Class.TheVariants.{Data, Single, Swi, Undefined}
+use Rattle.arm_isa.specs.declared.classes.Class.TheVariants.{Single, Swi, Undefined}
 use Rattle.arm_isa.specs.Fields.{bits}
-use Rattle.arm_isa.proofs.ClassBits.{class-multiply, class-group_0, class-group_1, class-group_2, class-group_3, class-group_4, class-group_5, class-group_6, class-group_7}
+use Rattle.arm_isa.proofs.ClassBits.{class-group_1, class-group_2, class-group_3, class-group_4, class-group_5, class-group_6, class-group_7}
 use Rattle.arm_isa.proofs.classes.class_of.Goals as goal
 
 -- a choice by the opposite
 turned : (t : Bool) (a b : Class) → (if not t then a else b) ≡ (if t then b else a)
 turned true a b = refl
 turned false a b = refl
-
-pub returns-then-is_multiply : goal.returns-then-is_multiply
-returns-then-is_multiply c = sym (class-multiply c.args.word (sym c.is_multiply.ensures ∙ c.if-is_multiply.true))
-
-pub returns-in-0 : goal.returns-in-0
-returns-in-0 c =
-    c.undefined_if.ensures ∙ ap (λ t. if t then Undefined else Data) c.has_bits_7_and_4.ensures
-    ∙ sym (class-group_0 c.args.word (sym c.is_multiply.ensures ∙ c.if-is_multiply.false) (sym c.bits.ensures ∙ c.in-0.is))
 
 pub returns-in-1 : goal.returns-in-1
 returns-in-1 c = sym (class-group_1 c.args.word (sym c.bits.ensures ∙ c.in-1.is))
@@ -26,7 +18,7 @@ returns-in-2 c = sym (class-group_2 c.args.word (sym c.bits.ensures ∙ c.in-2.i
 
 pub returns-in-3 : goal.returns-in-3
 returns-in-3 c =
-    c.undefined_if-in-3.ensures ∙ ap (λ t. if t then Undefined else Single) c.bit.ensures
+    c.undefined_if.ensures ∙ ap (λ t. if t then Undefined else Single) c.bit.ensures
     ∙ sym (class-group_3 c.args.word (sym c.bits.ensures ∙ c.in-3.is))
 
 pub returns-in-4 : goal.returns-in-4

@@ -3,11 +3,10 @@ use Rattle.std.proofs.Common.{◌≡◌, ◌≢◌, ℕ, ◌+◌, ◌*◌, ◌/�
 use Rattle.std.proofs.lemmas.Bool.{eqb-false}
 use Rattle.std.proofs.lemmas.List.{get_or-set_other}
 use Rattle.arm_isa.proofs.FieldLemmas.{from_bool-lt, flag_of}
-use Rattle.arm2_cpu.specs.declared.regs.Regs.{Regs}
-use Rattle.arm2_cpu.specs.declared.regs.TheConstants.{PC_END}
+use Rattle.arm2_alu.specs.declared.regs.Regs.{Regs}
 use Rattle.arm_isa.specs.Fields.{bit}
-use Rattle.arm2_cpu.specs.Conditions.{negative, zero_flag, carry, overflow, same, even_condition, holds, with_flags}
-use Rattle.arm2_cpu.specs.Registers.{IsValidRegs, banked, with_banked, register, with_register, mode, pc_ahead, r15, at_next, jumped}
+use Rattle.arm2_alu.specs.Conditions.{negative, zero_flag, carry, overflow, same, even_condition, holds, with_flags}
+use Rattle.arm2_alu.specs.Registers.{IsValidRegs, banked, with_banked, register, with_register, mode, pc_ahead, r15, at_next, jumped}
 
 -- the two choices that find a register
 abbrev look : Bool → Bool → Bool → Regs → ℕ → ℕ
@@ -222,17 +221,17 @@ valid-with_flags n z c v r valid =
     let a = from_bool-lt n in let b = from_bool-lt z in let d = from_bool-lt c in let e = from_bool-lt v in
     record { aligned = valid.aligned; pc = valid.pc; psr = omega (arith, a, b, d, e) }
 
-pub valid-at_pc : (r : Regs) (pc : ℕ) → IsValidRegs r → pc % 4 ≡ 0 → pc < PC_END → IsValidRegs (record r { pc = pc })
+pub valid-at_pc : (r : Regs) (pc : ℕ) → IsValidRegs r → pc % 4 ≡ 0 → pc < 2 ^ 26 → IsValidRegs (record r { pc = pc })
 valid-at_pc r pc valid aligned low = record { aligned = aligned; pc = low; psr = valid.psr }
 
 pub valid-at_next : (r : Regs) → IsValidRegs r → IsValidRegs (at_next r)
 valid-at_next r valid = let aligned = valid.aligned in valid-at_pc r (pc_ahead r 4) valid (omega (arith, aligned)) (omega arith)
 
 pub valid-jumped : (r : Regs) (value : ℕ) → IsValidRegs r → IsValidRegs (jumped r value)
-valid-jumped r value valid = valid-at_pc r (value % PC_END / 4 * 4) valid (omega arith) (omega arith)
+valid-jumped r value valid = valid-at_pc r (value % 2 ^ 26 / 4 * 4) valid (omega arith) (omega arith)
 
 -- R15: the PC and the mode are below 2^26, the whole is a word, and a jump to it goes to its PC
-pub r15-pc_lt : (r : Regs) (ahead : ℕ) → IsValidRegs r → ahead % 4 ≡ 0 → pc_ahead r ahead + mode r.svc < PC_END
+pub r15-pc_lt : (r : Regs) (ahead : ℕ) → IsValidRegs r → ahead % 4 ≡ 0 → pc_ahead r ahead + mode r.svc < 2 ^ 26
 r15-pc_lt r ahead valid whole = let aligned = valid.aligned in let few = mode_few r.svc in omega (arith, aligned, whole, few)
 
 pub r15-lt : (r : Regs) (ahead : ℕ) → IsValidRegs r → ahead % 4 ≡ 0 → r15 r ahead < 2 ^ 32
@@ -245,9 +244,9 @@ r15-jump q r ahead valid whole =
     let part = r15-pc_lt r ahead valid whole in
     let aligned = valid.aligned in
     let few = mode_few r.svc in
-    (λ i. record q { pc = (let e : r15 r ahead % PC_END / 4 * 4 ≡ pc_ahead r ahead = omega (arith, part, aligned, whole, few) in e) i })
+    (λ i. record q { pc = (let e : r15 r ahead % 2 ^ 26 / 4 * 4 ≡ pc_ahead r ahead = omega (arith, part, aligned, whole, few) in e) i })
 
-pub r15-at_pc : (r : Regs) (pc ahead : ℕ) → r15 (record r { pc = pc }) ahead ≡ r.psr * 2 ^ 26 + (pc + ahead) % PC_END + mode r.svc
+pub r15-at_pc : (r : Regs) (pc ahead : ℕ) → r15 (record r { pc = pc }) ahead ≡ r.psr * 2 ^ 26 + (pc + ahead) % 2 ^ 26 + mode r.svc
 unfolding r15
 r15-at_pc r pc ahead = refl
 

@@ -7,10 +7,10 @@ use Rattle.std.proofs.Math.Nat.{div-div-eq-div-mul}
 use Rattle.std.proofs.Math.Pow.{pow_mono}
 use Rattle.std.specs.Int.{from_bool}
 use Rattle.arm_isa.specs.Immediates.{rotated}
-use Rattle.arm2_cpu.specs.declared.shifts.TheConstants.{LSL, LSR, ASR, ROR}
+use Rattle.arm_isa.specs.Numbers.{LSL, LSR, ASR, ROR}
 use Rattle.arm_isa.specs.Fields.{bit}
-use Rattle.arm2_cpu.specs.Shifts.{complement, complemented, shifted_left, shifted_right, shifted_signed, turned_right, shifted, rotated_through_carry, shifted_by_field}
-use Rattle.arm2_cpu.proofs.ShiftLaws.{left_far, right_far}
+use Rattle.arm2_alu.specs.Shifts.{complement, complemented, shifted_left, shifted_right, shifted_signed, turned_right, shifted, rotated_through_carry, shifted_by_field}
+use Rattle.arm2_alu.proofs.ShiftLaws.{left_far, right_far}
 
 -- ---- bits of a word
 

@@ -2,10 +2,10 @@
 -- the sum of the words passes 32 bits, V where the sum of the signed words is outside the range of signed words.
 use Rattle.std.specs.Prelude.{ℕ, ◌+◌, ◌%◌, ◌^◌, ◌==◌, ◌||◌, ◌&&◌, not, nat_lt, nat_le, Bool, true, false, if◌then◌else◌, ℤ, pos, negsuc, ◌+ℤ◌, bit_and, bit_or, bit_xor}
 use Rattle.std.specs.Int.{w32, cast_signed, from_bool}
-use Rattle.arm2_cpu.specs.declared.shifts.Shifted.{Shifted}
-use Rattle.arm2_cpu.specs.declared.operations.Computed.{Computed}
-use Rattle.arm2_cpu.specs.declared.operations.TheConstants.{AND, EOR, SUB, RSB, ADD, ADC, SBC, RSC, TST, TEQ, CMP, CMN, ORR, MOV, BIC}
-use Rattle.arm2_cpu.specs.Shifts.{complement}
+use Rattle.arm2_alu.specs.declared.shifts.Shifted.{Shifted}
+use Rattle.arm2_alu.specs.declared.operations.Computed.{Computed}
+use Rattle.arm_isa.specs.Numbers.{AND, EOR, SUB, RSB, ADD, ADC, SBC, RSC, TST, TEQ, CMP, CMN, ORR, MOV, BIC}
+use Rattle.arm2_alu.specs.Shifts.{complement}
 
 -- a signed number has 32 bits: from -2^31 up to 2^31
 abbrev pub is_signed_word : ℤ → Bool

@@ -2,7 +2,8 @@
 use Rattle.std.specs.Prelude.{ℕ, ◌+◌, ◌*◌, ◌/◌, ◌%◌, ◌^◌, ◌==◌, ◌&&◌, not, Bool, true, if◌then◌else◌}
 use Rattle.std.specs.Int.{from_bool}
 use Rattle.arm_isa.specs.Fields.{bit}
-use Rattle.arm2_cpu.specs.declared.regs.Regs.{Regs}
+use Rattle.arm_isa.specs.Numbers.{EQ, CS, MI, VS, HI, GE, GT}
+use Rattle.arm2_alu.specs.declared.regs.Regs.{Regs}
 
 -- the flags: N Z C V I F are bits 5 to 0
 abbrev pub negative : Regs → Bool
@@ -24,13 +25,13 @@ same a b = if a then b else not b
 -- the conditions EQ, CS, MI, VS, HI, GE, GT and AL, which are the even ones
 unfoldable pub even_condition : ℕ → Regs → Bool
 even_condition cond r =
-    if cond == 0 then zero_flag r
-    else if cond == 2 then carry r
-    else if cond == 4 then negative r
-    else if cond == 6 then overflow r
-    else if cond == 8 then carry r && not (zero_flag r)
-    else if cond == 10 then same (negative r) (overflow r)
-    else if cond == 12 then not (zero_flag r) && same (negative r) (overflow r)
+    if cond == EQ then zero_flag r
+    else if cond == CS then carry r
+    else if cond == MI then negative r
+    else if cond == VS then overflow r
+    else if cond == HI then carry r && not (zero_flag r)
+    else if cond == GE then same (negative r) (overflow r)
+    else if cond == GT then not (zero_flag r) && same (negative r) (overflow r)
     else true
 
 -- each odd condition (NE, CC, PL, VC, LS, LT, LE, NV) is the contrary of the one before it

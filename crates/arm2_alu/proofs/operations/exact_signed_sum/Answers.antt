@@ -1,7 +1,7 @@
 use Rattle.std.proofs.Common.{arith}
 use Rattle.std.proofs.lemmas.Int.{ints}
 use Rattle.arm_isa.proofs.FieldLemmas.{from_bool-lt}
-use Rattle.arm2_cpu.proofs.operations.exact_signed_sum.Goals as goal
+use Rattle.arm2_alu.proofs.operations.exact_signed_sum.Goals as goal
 
 pub returns : goal.returns
 returns c =

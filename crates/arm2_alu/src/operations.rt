@@ -1,56 +1,9 @@
 ghost use Rattle.std.specs.Prelude.{◌≡◌, pos, ◌+ℤ◌};
 ghost use Rattle.std.specs.Int.{from_bool};
-ghost use Rattle.arm2_cpu.specs.Operations.{is_signed_word, added, is_test, logical, computed};
+ghost use Rattle.arm2_alu.specs.Operations.{is_signed_word, added, is_test, logical, computed};
 
 use crate::shifts::Shifted;
-
-/// `Rn AND operand`.
-pub const AND: u8 = 0;
-
-/// `Rn EOR operand`.
-pub const EOR: u8 = 1;
-
-/// `Rn - operand`.
-pub const SUB: u8 = 2;
-
-/// `operand - Rn`.
-pub const RSB: u8 = 3;
-
-/// `Rn + operand`.
-pub const ADD: u8 = 4;
-
-/// `Rn + operand + C`.
-pub const ADC: u8 = 5;
-
-/// `Rn - operand - NOT C`.
-pub const SBC: u8 = 6;
-
-/// `operand - Rn - NOT C`.
-pub const RSC: u8 = 7;
-
-/// The flags of `Rn AND operand`.
-pub const TST: u8 = 8;
-
-/// The flags of `Rn EOR operand`.
-pub const TEQ: u8 = 9;
-
-/// The flags of `Rn - operand`.
-pub const CMP: u8 = 10;
-
-/// The flags of `Rn + operand`.
-pub const CMN: u8 = 11;
-
-/// `Rn OR operand`.
-pub const ORR: u8 = 12;
-
-/// The operand.
-pub const MOV: u8 = 13;
-
-/// `Rn AND NOT operand`.
-pub const BIC: u8 = 14;
-
-/// `NOT operand`.
-pub const MVN: u8 = 15;
+use arm_isa::numbers::{ADC, ADD, AND, BIC, CMN, CMP, EOR, MOV, ORR, RSB, RSC, SBC, SUB, TEQ, TST};
 
 /// What an operation gives.
 #[derive(Clone, Copy)]
@@ -92,7 +45,7 @@ fn add(a: u32, b: u32, carry: bool) -> Computed
 }
 
 /// Whether an operation only sets flags.
-pub(crate) fn is_test(op: u8) -> bool
+pub fn is_test(op: u8) -> bool
     ensures { result ≡ is_test op }
 {
     TST <= op && op <= CMN
@@ -114,7 +67,7 @@ fn logical(op: u8, a: u32, b: u32) -> u32
 
 #[tactic(auto, unfolding(crate::specs::Operations::computed))]
 /// An operation on a first operand and a shifted second one, with C and V as they were.
-pub(crate) fn compute(op: u8, a: u32, b: Shifted, carry: bool, overflow: bool) -> Computed
+pub fn compute(op: u8, a: u32, b: Shifted, carry: bool, overflow: bool) -> Computed
     ensures { result ≡ computed op a b carry overflow }
 {
     match op {

@@ -6,7 +6,7 @@ use Rattle.std.proofs.Math.Pow.{pow_mono}
 use Rattle.std.specs.Int.{w32, rotate_right}
 use Rattle.arm_isa.proofs.Rotations.{rotate_right-rotated}
 use Rattle.arm_isa.specs.Fields.{bit}
-use Rattle.arm2_cpu.specs.Shifts.{shifted_left, shifted_right, turned_right}
+use Rattle.arm2_alu.specs.Shifts.{shifted_left, shifted_right, turned_right}
 
 -- a product with a power past 32 bits
 far_product : (n by : ℕ) → 32 < by → n * 2 ^ by ≡ n * 2 ^ (by - 33) * 2 ^ 33

@@ -3,10 +3,10 @@ use Rattle.std.proofs.Common.{◌≡◌, ℕ, suc, ◌+◌, ◌-◌, ◌%◌, �
 use Rattle.std.proofs.lemmas.Int.{ints, int_wrap_fits, wrapping_add-bits, wrapping_sub-bits}
 use Rattle.std.specs.Int.{w32, cast_signed}
 use Rattle.arm_isa.specs.Fields.{bit}
-use Rattle.arm2_cpu.specs.Conditions.{same}
-use Rattle.arm2_cpu.specs.Operations.{is_signed_word}
-use Rattle.arm2_cpu.proofs.ShiftValues.{sign-low, sign-high}
-use Rattle.arm2_cpu.proofs.ValueLaws.{minus, signed-low, signed-high}
+use Rattle.arm2_alu.specs.Conditions.{same}
+use Rattle.arm2_alu.specs.Operations.{is_signed_word}
+use Rattle.arm2_alu.proofs.ShiftValues.{sign-low, sign-high}
+use Rattle.arm2_alu.proofs.ValueLaws.{minus, signed-low, signed-high}
 
 -- what V looks at: whether a number is from -2^31 up to 2^31
 pub signed_word-within : (z : ℤ) → neg_ℤ (pos (2 ^ 31)) ≤ℤ z → z <ℤ pos (2 ^ 31) → is_signed_word z ≡ true

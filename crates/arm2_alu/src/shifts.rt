@@ -1,19 +1,8 @@
 ghost use Rattle.std.specs.Prelude.{◌≡◌, ◌<◌, ◌≤◌};
-ghost use Rattle.arm2_cpu.specs.Shifts.{shifted_left, shifted_right, shifted_signed, turned_right, shifted, rotated_through_carry, shifted_by_field};
+ghost use Rattle.arm2_alu.specs.Shifts.{shifted_left, shifted_right, shifted_signed, turned_right, shifted, rotated_through_carry, shifted_by_field};
 
-use crate::conditions::has_bit;
-
-/// Logical shift left.
-pub const LSL: u8 = 0;
-
-/// Logical shift right.
-pub const LSR: u8 = 1;
-
-/// Arithmetic shift right.
-pub const ASR: u8 = 2;
-
-/// Rotation right.
-pub const ROR: u8 = 3;
+use arm_isa::bit;
+use arm_isa::numbers::{ASR, LSL, LSR};
 
 /// A word that was shifted.
 #[derive(Clone, Copy)]
@@ -67,7 +56,7 @@ fn shift_signed(n: u32, by: u32) -> Shifted
     requires to { by < 256 }
     ensures { result ≡ shifted_signed n by }
 {
-    if !has_bit(n, 31) {
+    if !bit(n, 31) {
         return shift_right(n, by);
     }
     let mirrored = shift_right(!n, by);
@@ -84,7 +73,7 @@ fn turn_right(n: u32, by: u32) -> Shifted
     let value = n.rotate_right(by % 32);
     Shifted {
         value,
-        carry: has_bit(value, 31),
+        carry: bit(value, 31),
     }
 }
 
@@ -100,7 +89,7 @@ fn rotate_through_carry(n: u32, carry: bool) -> Shifted
 
 #[tactic(auto, unfolding(crate::specs::Shifts::shifted))]
 /// A word shifted by an amount from a register's low byte.
-pub(crate) fn shift(kind: u8, n: u32, by: u32, carry: bool) -> Shifted
+pub fn shift(kind: u8, n: u32, by: u32, carry: bool) -> Shifted
     requires { by < 256 }
     ensures { result ≡ shifted kind n by carry }
 {
@@ -117,7 +106,7 @@ pub(crate) fn shift(kind: u8, n: u32, by: u32, carry: bool) -> Shifted
 
 #[tactic(auto, unfolding(crate::specs::Shifts::shifted_by_field))]
 /// A word shifted by an amount of five bits in the instruction.
-pub(crate) fn shift_by_field(kind: u8, n: u32, by: u32, carry: bool) -> Shifted
+pub fn shift_by_field(kind: u8, n: u32, by: u32, carry: bool) -> Shifted
     requires { by < 32 }
     ensures { result ≡ shifted_by_field kind n by carry }
 {

@@ -2,8 +2,8 @@
 use Rattle.std.specs.Prelude.{ℕ, ◌+◌, ◌-◌, ◌*◌, ◌/◌, ◌%◌, ◌^◌, ◌==◌, not, Bool, if◌then◌else◌}
 use Rattle.std.specs.Int.{from_bool}
 use Rattle.arm_isa.specs.Immediates.{rotated}
-use Rattle.arm2_cpu.specs.declared.shifts.Shifted.{Shifted}
-use Rattle.arm2_cpu.specs.declared.shifts.TheConstants.{LSL, LSR, ASR}
+use Rattle.arm2_alu.specs.declared.shifts.Shifted.{Shifted}
+use Rattle.arm_isa.specs.Numbers.{LSL, LSR, ASR}
 use Rattle.arm_isa.specs.Fields.{bit}
 
 -- a word with each of its bits turned over

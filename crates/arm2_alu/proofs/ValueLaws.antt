@@ -9,18 +9,16 @@ use Rattle.arm_isa.specs.Fields.{bits, bit}
 use Rattle.arm_isa.specs.Immediates.{rotated, turns_of, immediate_value}
 use Rattle.arm_isa.proofs.ImmediateLaws.{immediate_value-byte}
 use Rattle.arm_isa.proofs.ShiftFields.{shift-fields, register_shift-fields}
-use Rattle.arm2_cpu.specs.declared.operations.Computed.{Computed}
-use Rattle.arm2_cpu.specs.declared.operations.TheConstants.{AND, EOR, SUB, RSB, ADD, ADC, SBC, RSC, TST, TEQ, CMP, CMN, ORR, MOV, BIC, MVN}
-use Rattle.arm2_cpu.specs.declared.regs.Regs.{Regs}
-use Rattle.arm2_cpu.specs.declared.regs.TheConstants.{R15}
-use Rattle.arm2_cpu.specs.declared.shifts.Shifted.{Shifted}
-use Rattle.arm2_cpu.specs.declared.shifts.TheConstants.{ASR}
-use Rattle.arm2_cpu.specs.Conditions.{carry}
-use Rattle.arm2_cpu.specs.Operands.{by_register, first_operand, second_operand, whole_operand, immediate_operand, amount_operand, register_operand}
-use Rattle.arm2_cpu.specs.Operations.{is_signed_word, added, subtracted, logical, computed}
-use Rattle.arm2_cpu.specs.Registers.{register, pc_ahead, r15}
-use Rattle.arm2_cpu.specs.Shifts.{complement, shifted_by_field, shifted}
-use Rattle.arm2_cpu.proofs.ShiftValues.{shifted-lsl, shifted-lsr, shifted-ror, field-amount, field-lsl_0}
+use Rattle.arm2_alu.specs.declared.operations.Computed.{Computed}
+use Rattle.arm_isa.specs.Numbers.{AND, EOR, SUB, RSB, ADD, ADC, SBC, RSC, TST, TEQ, CMP, CMN, ORR, MOV, BIC, MVN, R15, ASR}
+use Rattle.arm2_alu.specs.declared.regs.Regs.{Regs}
+use Rattle.arm2_alu.specs.declared.shifts.Shifted.{Shifted}
+use Rattle.arm2_alu.specs.Conditions.{carry}
+use Rattle.arm2_alu.specs.Operands.{by_register, first_operand, second_operand, whole_operand, immediate_operand, amount_operand, register_operand}
+use Rattle.arm2_alu.specs.Operations.{is_signed_word, added, subtracted, logical, computed}
+use Rattle.arm2_alu.specs.Registers.{register, pc_ahead, r15}
+use Rattle.arm2_alu.specs.Shifts.{complement, shifted_by_field, shifted}
+use Rattle.arm2_alu.proofs.ShiftValues.{shifted-lsl, shifted-lsr, shifted-ror, field-amount, field-lsl_0}
 
 -- a difference modulo 2^32
 abbrev pub minus : ℕ → ℕ → ℕ

@@ -2,12 +2,12 @@
 use Rattle.std.specs.Prelude.{ℕ, ◌%◌, ◌^◌, ◌==◌, ◌&&◌, not, Bool, if◌then◌else◌}
 use Rattle.arm_isa.specs.Fields.{bits, bit}
 use Rattle.arm_isa.specs.Immediates.{turns_of, immediate_value}
-use Rattle.arm2_cpu.specs.declared.regs.Regs.{Regs}
-use Rattle.arm2_cpu.specs.declared.regs.TheConstants.{R15}
-use Rattle.arm2_cpu.specs.declared.shifts.Shifted.{Shifted}
-use Rattle.arm2_cpu.specs.Conditions.{carry}
-use Rattle.arm2_cpu.specs.Registers.{register, pc_ahead, r15}
-use Rattle.arm2_cpu.specs.Shifts.{shifted, shifted_by_field}
+use Rattle.arm2_alu.specs.declared.regs.Regs.{Regs}
+use Rattle.arm_isa.specs.Numbers.{R15}
+use Rattle.arm2_alu.specs.declared.shifts.Shifted.{Shifted}
+use Rattle.arm2_alu.specs.Conditions.{carry}
+use Rattle.arm2_alu.specs.Registers.{register, pc_ahead, r15}
+use Rattle.arm2_alu.specs.Shifts.{shifted, shifted_by_field}
 
 -- a register operand with its amount in a register
 abbrev pub by_register : Bool → ℕ → Bool

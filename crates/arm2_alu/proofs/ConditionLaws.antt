@@ -5,12 +5,12 @@ use Rattle.std.proofs.lemmas.Bool.Decides.{nat_tests}
 use Rattle.std.proofs.lemmas.Int.{ints, by_lt_z, of_z-to_z}
 use Rattle.std.specs.Int.{w32, cast_signed, cast_unsigned}
 use Rattle.std.specs.Int.Signed.{le_z, lt_z}
-use Rattle.arm2_cpu.specs.declared.regs.Regs.{Regs}
-use Rattle.arm2_cpu.specs.Conditions.{holds}
-use Rattle.arm2_cpu.specs.Data.{flagged}
-use Rattle.arm2_cpu.proofs.RegisterLaws.{holds-eq, holds-ne, holds-cs, holds-cc, holds-hi, holds-ls, holds-ge, holds-lt, holds-gt, holds-le}
-use Rattle.arm2_cpu.proofs.SignedLaws.{signed_ge, ge-by_order}
-use Rattle.arm2_cpu.proofs.ValueLaws.{minus, compared, difference-zero}
+use Rattle.arm2_alu.specs.declared.regs.Regs.{Regs}
+use Rattle.arm2_alu.specs.Conditions.{holds}
+use Rattle.arm2_alu.specs.Results.{flagged}
+use Rattle.arm2_alu.proofs.RegisterLaws.{holds-eq, holds-ne, holds-cs, holds-cc, holds-hi, holds-ls, holds-ge, holds-lt, holds-gt, holds-le}
+use Rattle.arm2_alu.proofs.SignedLaws.{signed_ge, ge-by_order}
+use Rattle.arm2_alu.proofs.ValueLaws.{minus, compared, difference-zero}
 
 pub compared-eq : (a b : ℕ) (r : Regs) → a < 2 ^ 32 → b < 2 ^ 32 → holds 0 (flagged (compared a b) r) ≡ (a == b)
 compared-eq a b r small below = holds-eq _ _ _ _ r ∙ difference-zero a b small below

@@ -1,0 +1,7 @@
+mod ShiftLaws
+mod OperandLaws
+pub mod RegisterLaws
+pub mod ShiftValues
+pub mod ValueLaws
+pub mod SignedLaws
+pub mod ConditionLaws
