@@ -8,5 +8,3 @@ pub mod Single
 pub mod Block
 pub mod Unpredictable
 pub mod Step
-pub mod Window
-pub mod WindowLaws

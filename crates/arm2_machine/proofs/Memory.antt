@@ -81,7 +81,7 @@ slice_index-append front back a k is = grind (arith, common_steps)
 allowed : (a : ℕ) → a < ram_end → board_space.allows false a ≡ true
 allowed a inside =
     let low : nat_le 0 a ≡ true = le-leb 0 a (omega arith) in
-    let high : nat_lt a (0 + ram_end) ≡ true = lt-ltb a ram_end inside in
+    let high : nat_lt a ram_end ≡ true = lt-ltb a ram_end inside in
     (λ i. low i && high i)
 
 -- the RAM begins at address 0
@@ -92,18 +92,6 @@ byte_here ram a = ap (slice_index ram) (let e : a - 0 ≡ a = omega arith in e)
 word_here : (ram : List ℕ) (a : ℕ) → word_at board_space ram a ≡ slice_index ram a + slice_index ram (a + 1) * 256 + slice_index ram (a + 2) * 65536 + slice_index ram (a + 3) * 16777216
 unfolding word_at
 word_here ram a = λ i. byte_here ram a i + byte_here ram (a + 1) i * 256 + byte_here ram (a + 2) i * 65536 + byte_here ram (a + 3) i * 16777216
-
--- a word of the processor's memory is that of its four bytes
-pub same_word : (ram : List ℕ) (a : ℕ) → word_at board_space ram a ≡ bytes_word ram a
-unfolding bytes_word
-same_word ram a = word_here ram a
-
--- bytes that are put in the RAM
-pub same_put : (ram : List ℕ) (a : ℕ) (new : List ℕ) → with_bytes board_space ram a new ≡ put_at ram a new
-unfolding with_bytes put_at
-same_put ram a new =
-    let e : a - 0 ≡ a = omega arith in
-    (λ i. take (e i) ram ++ new ++ drop (e i + length new) ram)
 
 fetched-is : (ram : List ℕ) (a : ℕ) → a < ram_end → fetched ram a ≡ Some (word_at board_space ram a)
 unfolding read_word

@@ -1,13 +1,15 @@
 //! The board's machine: the processor with the board's RAM, and the input that is left. What it does at a trap is here; its
 //! calls are in `swi`, and a step of it is in `step`.
 ghost use Rattle.std.specs.Prelude.{◌≡◌, ◌%◌, ◌^◌, ◌<◌, ◌≤◌, length, IfOk};
+ghost use Rattle.bv_base.specs.Limits.{image_words};
 
 use crate::input::Input;
-use crate::ram::BoardRam;
+use crate::ram::{self, BoardPlace};
 use crate::reports;
 use crate::step::{Output, StepOutcome};
 use arm2_cpu::{Pc, Regs};
-use bv_base::{IMAGE_START, IMAGE_WORDS, NoMemory, TRAP_ENTRY};
+use arm2_memory::Window;
+use bv_base::{IMAGE_START, NoMemory, TRAP_ENTRY};
 use bv_run::Trap;
 use std::alloc::Global;
 use std::marker::Model;
@@ -16,7 +18,7 @@ use std::marker::Model;
 #[derive(Drop)]
 pub struct Machine {
     pub(crate) regs: Regs,
-    pub(crate) ram: BoardRam,
+    pub(crate) ram: Window<BoardPlace>,
     pub(crate) input: Input,
 }
 
@@ -24,8 +26,6 @@ impl Model for Machine {
     ghost use Rattle.arm2_machine.specs.Machine as machine;
 
     ghost Value = { machine.Machine };
-
-    ghost coded = { machine.machine_code };
 
     ghost view = { λ m. record { regs = m.regs; ram = m.ram; input = m.input } };
 }
@@ -36,10 +36,10 @@ impl Machine {
 
     /// The machine at the start of an image of at most `IMAGE_WORDS` words, with this input.
     pub fn load(alloc: Global, words: &[u32], input: Vec<u8>) -> Result<Machine, NoMemory>
-        requires { length words.now ≤ IMAGE_WORDS }
+        requires { length words.now ≤ image_words }
         ensures { IfOk result (λ machine. machine ≡ loaded words.now input.items) }
     {
-        let ram = BoardRam::load(alloc, words)?;
+        let ram = ram::load_ram(alloc, words)?;
         Ok(Machine {
             regs: Regs::starting_at(Pc::of(IMAGE_START)),
             ram,
@@ -51,7 +51,7 @@ impl Machine {
     pub fn arena(&self) -> &[u8]
         ensures { result.now ≡ arena_of self.now.ram }
     {
-        self.ram.arena()
+        ram::arena(&self.ram)
     }
 
     /// Goes to the supervisor, at an entry.
