@@ -7,6 +7,7 @@ use crate::shifts::{Shifted, shift, shift_by_field};
 use arm_isa::bit;
 
 /// Whether a second operand has the amount of its shift in a register.
+#[inline]
 pub fn is_by_register(imm: bool, op2: u16) -> bool
     ensures { result ≡ by_register imm op2 }
 {
@@ -14,6 +15,7 @@ pub fn is_by_register(imm: bool, op2: u16) -> bool
 }
 
 /// How many bytes ahead of the instruction R15 reads.
+#[inline]
 pub fn ahead_of(imm: bool, op2: u16) -> u32
     ensures { result ≡ ahead_of imm op2 }
 {
@@ -21,6 +23,7 @@ pub fn ahead_of(imm: bool, op2: u16) -> u32
 }
 
 /// The number in the low four bits of a field from bit `low` up.
+#[inline]
 pub fn register_at(field: u16, low: u16) -> u8
     requires { low ≤ 12 }
     ensures { result ≡ field / 2 ^ low % 16 }
@@ -29,6 +32,7 @@ pub fn register_at(field: u16, low: u16) -> u8
 }
 
 #[tactic(auto, using(crate::proofs::OperandLaws::immediate_laws), unfolding(crate::specs::Operands::immediate_operand))]
+#[inline]
 fn immediate_operand(op2: u16, carry: bool) -> Shifted
     requires { op2 < 2 ^ 12 }
     ensures { result ≡ immediate_operand op2 carry }
@@ -41,18 +45,25 @@ fn immediate_operand(op2: u16, carry: bool) -> Shifted
 
 #[tactic(auto, unfolding(crate::specs::Operands::amount_operand))]
 /// A register, shifted by an amount of five bits.
+#[inline(always)]
 pub fn amount_operand(regs: &Regs, op2: u16) -> Shifted
     requires { op2 < 2 ^ 12 }
     ensures { result ≡ amount_operand regs.now op2 }
 {
-    let kind = ((op2 >> 5) % 4) as u8;
-    let amount = u32::from(op2 >> 7);
     let value = regs.whole_operand(8, register_at(op2, 0));
-    shift_by_field(kind, value, amount, regs.has_carry())
+    let carry = regs.has_carry();
+    if op2 < 0x10 {
+        Shifted { value, carry }
+    } else {
+        let kind = ((op2 >> 5) % 4) as u8;
+        let amount = u32::from(op2 >> 7);
+        shift_by_field(kind, value, amount, carry)
+    }
 }
 
 #[tactic(auto, unfolding(crate::specs::Operands::register_operand))]
 /// A register, shifted by the low byte of another.
+#[inline(never)]
 fn register_operand(regs: &Regs, op2: u16) -> Shifted
     requires { op2 < 2 ^ 12 }
     ensures { result ≡ register_operand regs.now op2 }
@@ -65,6 +76,7 @@ fn register_operand(regs: &Regs, op2: u16) -> Shifted
 
 #[tactic(auto, unfolding(crate::specs::Operands::second_operand))]
 /// The second operand of data processing.
+#[inline(always)]
 pub fn second_operand(regs: &Regs, imm: bool, op2: u16) -> Shifted
     requires { op2 < 2 ^ 12 }
     ensures { result ≡ second_operand regs.now imm op2 }

@@ -173,13 +173,16 @@ impl Regs {
         self.pc = Pc::of(target);
     }
 
-    #[tactic(auto, unfolding(crate::specs::Results::loaded))]
+    #[tactic(auto, unfolding(crate::specs::Results::loaded, crate::specs::Registers::with_banked))]
     /// Gives a register a value, and goes on: for R15 at that address, else at the next instruction.
     #[inline]
     pub fn load(&mut self, rd: u8, value: u32)
         ensures { self.new ≡ loaded self.old rd value }
     {
-        if rd == R15 {
+        if rd < R13 {
+            self.low[usize::from(rd)] = value;
+            self.advance();
+        } else if rd == R15 {
             self.jump(value);
         } else {
             self.set_register(rd, value);

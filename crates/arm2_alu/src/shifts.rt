@@ -106,6 +106,7 @@ pub fn shift(kind: u8, n: u32, by: u32, carry: bool) -> Shifted
 
 #[tactic(auto, unfolding(crate::specs::Shifts::shifted_by_field))]
 /// A word shifted by an amount of five bits in the instruction.
+#[inline(never)]
 pub fn shift_by_field(kind: u8, n: u32, by: u32, carry: bool) -> Shifted
     requires { by < 32 }
     ensures { result ≡ shifted_by_field kind n by carry }

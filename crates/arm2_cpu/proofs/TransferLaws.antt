@@ -20,14 +20,14 @@ use Rattle.arm2_alu.specs.Registers.{register, with_banked, with_register, at_ne
 use Rattle.arm2_alu.specs.Shifts.{shifted_by_field}
 use Rattle.arm2_cpu.specs.Single.{read_unit, with_unit, can_transfer, load_single, store_single, single_step}
 use Rattle.arm2_cpu.specs.Step.{class_step, cpu_step}
-use Rattle.arm2_cpu.specs.Unpredictable.{is_open_multiply, is_open_single, is_open_block, is_unpredictable}
+use Rattle.arm2_cpu.specs.Unpredictable.{is_unpredictable_multiply, is_unpredictable_single, is_unpredictable_block, is_unpredictable}
 use Rattle.arm2_cpu.proofs.StepBasics.{Fetches, goes, step-by_class}
 use Rattle.arm2_cpu.proofs.StepLaws.{loaded-register}
 use Rattle.arm2_alu.proofs.ValueLaws.{not_r15, first-register, whole-register, amount-shifted, amount-plain, amount-lsl}
 
 -- ---- multiplication
 
-multiply_fine : (rd rn rs rm : ℕ) → rd < 15 → rn < 15 → rs < 15 → rm < 15 → (rd == rm) ≡ false → is_open_multiply rd rn rs rm ≡ false
+multiply_fine : (rd rn rs rm : ℕ) → rd < 15 → rn < 15 → rs < 15 → rm < 15 → (rd == rm) ≡ false → is_unpredictable_multiply rd rn rs rm ≡ false
 multiply_fine rd rn rs rm d n s m apart = (λ i. apart i || not_r15 rd d i || not_r15 rn n i || not_r15 rs s i || not_r15 rm m i)
 
 -- MUL or MLA
@@ -77,7 +77,7 @@ step-mlas s r bytes cond rd rn rs rm f meets d n t m apart = multiply_by_class s
 -- ---- LDR and STR
 
 single_by_class : (s : Space) (r : Regs) (bytes : List ℕ) (cond : ℕ) (reg pre up byte wb load : Bool) (rn rd offset : ℕ)
-    → Fetches s r bytes (Single cond reg pre up byte wb load rn rd offset) → holds cond r ≡ true → is_open_single reg pre byte wb load rn rd offset ≡ false
+    → Fetches s r bytes (Single cond reg pre up byte wb load rn rd offset) → holds cond r ≡ true → is_unpredictable_single reg pre byte wb load rn rd offset ≡ false
     → cpu_step s r bytes ≡ single_step s r bytes load byte rd (single_access r reg pre up wb rn offset)
 unfolding class_step is_unpredictable
 single_by_class s r bytes cond reg pre up byte wb load rn rd offset f meets fine =
@@ -345,7 +345,7 @@ step-strb_behind s r bytes cond reg up rn rd offset at next f meets fine base lo
 -- ---- LDM and STM
 
 block_by_class : (s : Space) (r : Regs) (bytes : List ℕ) (cond : ℕ) (pre up psr wb load : Bool) (rn list : ℕ)
-    → Fetches s r bytes (Block cond pre up psr wb load rn list) → holds cond r ≡ true → is_open_block psr wb load rn list ≡ false
+    → Fetches s r bytes (Block cond pre up psr wb load rn list) → holds cond r ≡ true → is_unpredictable_block psr wb load rn list ≡ false
     → cpu_step s r bytes ≡ block_step s r bytes psr load list (block_access r pre up wb rn (length (registers_in list)))
 unfolding class_step is_unpredictable
 block_by_class s r bytes cond pre up psr wb load rn list f meets fine =
@@ -384,7 +384,7 @@ ldm_pc_done s r bytes list start rn back allowed set = rw (allowed, set) refl
 
 -- STM without ^: the registers are stored as they were, then the base takes its value
 pub step-stm : (s : Space) (r : Regs) (bytes : List ℕ) (cond : ℕ) (pre up wb : Bool) (rn list target start : ℕ)
-    → Fetches s r bytes (Block cond pre up false wb false rn list) → holds cond r ≡ true → is_open_block false wb false rn list ≡ false
+    → Fetches s r bytes (Block cond pre up false wb false rn list) → holds cond r ≡ true → is_unpredictable_block false wb false rn list ≡ false
     → moved up (register r rn) (4 * length (registers_in list)) ≡ target → block_start pre up (register r rn) target ≡ start
     → refused_word (length (registers_in list)) s (not r.svc) start ≡ None
     → cpu_step s r bytes ≡ goes (at_next (with_base_taking (taken_back wb target) r rn)) (with_block (registers_in list) s bytes r r.svc start)
@@ -395,7 +395,7 @@ step-stm s r bytes cond pre up wb rn list target start f meets fine moves begins
 
 -- LDM without ^ and R15
 pub step-ldm : (s : Space) (r : Regs) (bytes : List ℕ) (cond : ℕ) (pre up wb : Bool) (rn list target start : ℕ)
-    → Fetches s r bytes (Block cond pre up false wb true rn list) → holds cond r ≡ true → is_open_block false wb true rn list ≡ false → bit list 15 ≡ false
+    → Fetches s r bytes (Block cond pre up false wb true rn list) → holds cond r ≡ true → is_unpredictable_block false wb true rn list ≡ false → bit list 15 ≡ false
     → moved up (register r rn) (4 * length (registers_in list)) ≡ target → block_start pre up (register r rn) target ≡ start
     → refused_word (length (registers_in list)) s (not r.svc) start ≡ None
     → cpu_step s r bytes ≡ goes (at_next (with_words (low_registers_in list) s bytes (with_base_taking (taken_back wb target) r rn) r.svc start)) bytes
@@ -406,7 +406,7 @@ step-ldm s r bytes cond pre up wb rn list target start f meets fine clear moves 
 
 -- LDM without ^ that loads R15: a jump that keeps the flags
 pub step-ldm_pc : (s : Space) (r : Regs) (bytes : List ℕ) (cond : ℕ) (pre up wb : Bool) (rn list target start : ℕ)
-    → Fetches s r bytes (Block cond pre up false wb true rn list) → holds cond r ≡ true → is_open_block false wb true rn list ≡ false → bit list 15 ≡ true
+    → Fetches s r bytes (Block cond pre up false wb true rn list) → holds cond r ≡ true → is_unpredictable_block false wb true rn list ≡ false → bit list 15 ≡ true
     → moved up (register r rn) (4 * length (registers_in list)) ≡ target → block_start pre up (register r rn) target ≡ start
     → refused_word (length (registers_in list)) s (not r.svc) start ≡ None
     → cpu_step s r bytes ≡ goes (jumped (with_words (low_registers_in list) s bytes (with_base_taking (taken_back wb target) r rn) r.svc start) (word_at s bytes ((start + 4 * length (low_registers_in list)) % 2 ^ 32))) bytes

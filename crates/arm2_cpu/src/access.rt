@@ -17,6 +17,7 @@ pub struct Access {
 }
 
 #[tactic(auto, unfolding(crate::specs::Access::moved))]
+#[inline]
 fn moved(up: bool, base: u32, offset: u32) -> u32
     ensures { result ≡ moved up base offset }
 {
@@ -28,6 +29,7 @@ fn moved(up: bool, base: u32, offset: u32) -> u32
 }
 
 /// Whether LDR or STR writes the moved address back to its base.
+#[inline]
 pub(crate) fn writes_back(pre: bool, wb: bool) -> bool
     ensures { result ≡ writes_back pre wb }
 {
@@ -35,6 +37,7 @@ pub(crate) fn writes_back(pre: bool, wb: bool) -> bool
 }
 
 #[tactic(auto, unfolding(crate::specs::Access::offset_of))]
+#[inline]
 fn offset_of(regs: &Regs, reg: bool, offset: u16) -> u32
     requires { offset < 2 ^ 12 }
     ensures { result ≡ offset_of regs.now reg offset }
@@ -48,6 +51,7 @@ fn offset_of(regs: &Regs, reg: bool, offset: u16) -> u32
 
 #[tactic(auto, unfolding(crate::specs::Access::single_access))]
 /// The access of LDR and STR.
+#[inline(always)]
 pub(crate) fn single_access(
     regs: &Regs,
     reg: bool,

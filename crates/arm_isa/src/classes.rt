@@ -38,6 +38,7 @@ fn undefined_if(set: bool, class: Class) -> Class
 }
 
 /// The class of a word whose bits 27 to 25 are 0: data processing with a register operand, unless bits 7 and 4 are set.
+#[inline]
 fn register_class(word: u32) -> Class
     requires { bits word 27 25 ≡ 0 }
     ensures { result ≡ class_of word }
@@ -51,14 +52,28 @@ fn register_class(word: u32) -> Class
     }
 }
 
+/// The class of a word whose bits 27 and 26 are 0.
+#[inline]
+fn data_class(word: u32) -> Class
+    requires { bits word 27 26 ≡ 0 }
+    ensures { result ≡ class_of word }
+{
+    if bit(word, 25) {
+        Class::Data
+    } else {
+        register_class(word)
+    }
+}
+
 /// The class of a word, by the bits that all words of the class share.
 #[inline]
 pub fn class_of(word: u32) -> Class
     ensures { result ≡ class_of word }
 {
+    if bits(word, 27, 26) == 0 {
+        return data_class(word);
+    }
     match bits(word, 27, 25) {
-        0b000 => register_class(word),
-        0b001 => Class::Data,
         0b010 => Class::Single,
         0b011 => undefined_if(bit(word, 4), Class::Single),
         0b100 => Class::Block,

@@ -2,7 +2,7 @@ use Rattle.std.proofs.Common.{◌≡◌, ◌∙◌, sym, ap, Bool, true, false, 
 use Rattle.arm_isa.specs.declared.classes.Class.{Class}
 use Rattle.arm_isa.specs.declared.classes.Class.TheVariants.{Single, Swi, Undefined}
 use Rattle.arm_isa.specs.Fields.{bits}
-use Rattle.arm_isa.proofs.ClassBits.{class-group_1, class-group_2, class-group_3, class-group_4, class-group_5, class-group_6, class-group_7}
+use Rattle.arm_isa.proofs.ClassBits.{class-group_2, class-group_3, class-group_4, class-group_5, class-group_6, class-group_7}
 use Rattle.arm_isa.proofs.classes.class_of.Goals as goal
 
 -- a choice by the opposite
@@ -10,28 +10,25 @@ turned : (t : Bool) (a b : Class) → (if not t then a else b) ≡ (if t then b 
 turned true a b = refl
 turned false a b = refl
 
-pub returns-in-1 : goal.returns-in-1
-returns-in-1 c = sym (class-group_1 c.args.word (sym c.bits.ensures ∙ c.in-1.is))
-
 pub returns-in-2 : goal.returns-in-2
-returns-in-2 c = sym (class-group_2 c.args.word (sym c.bits.ensures ∙ c.in-2.is))
+returns-in-2 c = sym (class-group_2 c.args.word (sym c.bits-2.ensures ∙ c.in-2.is))
 
 pub returns-in-3 : goal.returns-in-3
 returns-in-3 c =
     c.undefined_if.ensures ∙ ap (λ t. if t then Undefined else Single) c.bit.ensures
-    ∙ sym (class-group_3 c.args.word (sym c.bits.ensures ∙ c.in-3.is))
+    ∙ sym (class-group_3 c.args.word (sym c.bits-2.ensures ∙ c.in-3.is))
 
 pub returns-in-4 : goal.returns-in-4
-returns-in-4 c = sym (class-group_4 c.args.word (sym c.bits.ensures ∙ c.in-4.is))
+returns-in-4 c = sym (class-group_4 c.args.word (sym c.bits-2.ensures ∙ c.in-4.is))
 
 pub returns-in-5 : goal.returns-in-5
-returns-in-5 c = sym (class-group_5 c.args.word (sym c.bits.ensures ∙ c.in-5.is))
+returns-in-5 c = sym (class-group_5 c.args.word (sym c.bits-2.ensures ∙ c.in-5.is))
 
 pub returns-in-6 : goal.returns-in-6
-returns-in-6 c = sym (class-group_6 c.args.word (sym c.bits.ensures ∙ c.in-6.is))
+returns-in-6 c = sym (class-group_6 c.args.word (sym c.bits-2.ensures ∙ c.in-6.is))
 
 pub returns-in_default : goal.returns-in_default
 returns-in_default c =
-    let group : bits c.args.word 27 25 ≡ 7 = omega (arith, c.bits.ensures) in
+    let group : bits c.args.word 27 25 ≡ 7 = omega (arith, c.bits-2.ensures) in
     c.undefined_if-in_default.ensures ∙ ap (λ t. if not t then Undefined else Swi) c.bit-in_default.ensures
     ∙ turned _ Undefined Swi ∙ sym (class-group_7 c.args.word group)
