@@ -6,7 +6,7 @@ use Rattle.std.proofs.lemmas.Nat.{mod-pow-add, ones_cat, ones-le, shr-shr}
 use Rattle.arm2_alu.specs.declared.regs.Regs.{Regs}
 use Rattle.arm2_cpu.specs.Access.{can_use}
 use Rattle.arm_isa.specs.Fields.{bit}
-use Rattle.arm2_cpu.specs.Memory.{Space, word_at, with_word}
+use Rattle.arm2_cpu.specs.Memory.{Space, word_in, with_word}
 use Rattle.arm2_alu.specs.Registers.{with_banked}
 use Rattle.arm2_cpu.specs.Block.{registers_among, registers_in, low_registers_in, next_word, refused_word, with_block, with_words, stored_value}
 
@@ -121,7 +121,7 @@ unfolding with_block registers_among
 block_ends j n list s bytes r svc at is = rw is refl
 
 -- what is left to load
-pub words_take : (j k n list : ℕ) (s : Space) (bytes : List ℕ) (r : Regs) (svc : Bool) (at : ℕ) → bit list n ≡ true → j ≡ suc k → with_words (registers_among j n list) s bytes r svc at ≡ with_words (registers_among k (n + 1) list) s bytes (with_banked svc r n (word_at s bytes at)) svc (next_word at)
+pub words_take : (j k n list : ℕ) (s : Space) (bytes : List ℕ) (r : Regs) (svc : Bool) (at : ℕ) → bit list n ≡ true → j ≡ suc k → with_words (registers_among j n list) s bytes r svc at ≡ with_words (registers_among k (n + 1) list) s bytes (with_banked svc r n (word_in s bytes at)) svc (next_word at)
 unfolding with_words
 words_take j k n list s bytes r svc at set is = ap (λ ns. with_words ns s bytes r svc at) (among_takes j k n list set is)
 

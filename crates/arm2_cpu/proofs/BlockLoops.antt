@@ -4,7 +4,7 @@ use Rattle.arm2_alu.specs.declared.regs.Regs.{Regs}
 use Rattle.arm2_cpu.specs.Access.{can_use}
 use Rattle.arm2_cpu.specs.Block.{registers_among, registers_in, low_registers_in, next_word, refused_word, stored_value, with_block, with_words}
 use Rattle.arm_isa.specs.Fields.{bit}
-use Rattle.arm2_cpu.specs.Memory.{Space, word_at, with_word}
+use Rattle.arm2_cpu.specs.Memory.{Space, word_in, with_word}
 use Rattle.arm2_alu.specs.Registers.{with_banked}
 use Rattle.arm2_cpu.proofs.BlockLaws.{register_allowed, rest_allowed, skipped_allowed, block_takes, block_skips, block_ends, words_take, words_skip, words_end, refused_next, refused_here, refused_none}
 
@@ -58,7 +58,7 @@ loading_skips s list user n at bytes r first svc start h below clear =
       rest = sym (words_skip _ (15 - (n + 1)) n list s bytes r svc at clear (omega (arith, below))) ∙ h.rest;
     }
 
-pub loading_takes : (s : Space) (list : ℕ) (user : Bool) (n at : ℕ) (bytes : List ℕ) (r first : Regs) (svc : Bool) (start value : ℕ) (after : Regs) → Loading s list user n at bytes r first svc start → n < 15 → bit list n ≡ true → value ≡ word_at s bytes at → after ≡ with_banked svc r n value → Loading s list user (n + 1) (next_word at) bytes after first svc start
+pub loading_takes : (s : Space) (list : ℕ) (user : Bool) (n at : ℕ) (bytes : List ℕ) (r first : Regs) (svc : Bool) (start value : ℕ) (after : Regs) → Loading s list user n at bytes r first svc start → n < 15 → bit list n ≡ true → value ≡ word_in s bytes at → after ≡ with_banked svc r n value → Loading s list user (n + 1) (next_word at) bytes after first svc start
 loading_takes s list user n at bytes r first svc start value after h below set is loaded =
     let aligned = h.aligned in
     record {

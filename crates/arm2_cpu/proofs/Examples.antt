@@ -16,7 +16,7 @@ use Rattle.arm2_alu.specs.Conditions.{carry, with_flags}
 use Rattle.arm2_alu.specs.Results.{flagged}
 use Rattle.arm2_alu.specs.Operations.{is_signed_word}
 use Rattle.arm2_alu.specs.Shifts.{shifted}
-use Rattle.arm2_cpu.specs.Memory.{Space, read_word, word_at, with_word}
+use Rattle.arm2_cpu.specs.Memory.{Space, read_word, word_in, with_word}
 use Rattle.arm2_alu.specs.Registers.{IsValidRegs, register, with_register, at_next, jumped, pc_ahead, r15}
 use Rattle.arm2_cpu.specs.Step.{cpu_step}
 use Rattle.arm2_cpu.specs.Block.{registers_among, registers_in, low_registers_in, next_word, refused_word, with_block, with_words}
@@ -70,7 +70,7 @@ shift_by_register s r bytes n by is_n is_by high small some few word =
 load_indexed : (s : Space) (r : Regs) (bytes : List ℕ) (base index : ℕ) → register r 1 ≡ base → register r 2 ≡ index
     → base % 4 ≡ 0 → base + 4 * index < 2 ^ 26 → s.allows (not r.svc) (base + 4 * index) ≡ true
     → read_word s bytes (not r.svc) r.pc ≡ Some 0xe7910102
-    → cpu_step s r bytes ≡ goes (at_next (with_register r 0 (word_at s bytes (base + 4 * index)))) bytes
+    → cpu_step s r bytes ≡ goes (at_next (with_register r 0 (word_in s bytes (base + 4 * index)))) bytes
 unfolding word_of
 load_indexed s r bytes base index is_base is_index aligned low allowed word =
     let offset : offset_of r true 258 ≡ 4 * index = offset-lsl r 2 2 (omega arith) (omega arith) (omega arith) ∙ omega (arith, is_index, low) in
@@ -130,7 +130,7 @@ popped = refl
 pop : (s : Space) (r : Regs) (bytes : List ℕ) (top : ℕ) → register r 13 ≡ top → top % 4 ≡ 0 → top + 12 < 2 ^ 26
     → s.allows (not r.svc) top ≡ true → s.allows (not r.svc) (top + 4) ≡ true → s.allows (not r.svc) (top + 8) ≡ true
     → read_word s bytes (not r.svc) r.pc ≡ Some 0xe8bd8003
-    → cpu_step s r bytes ≡ goes (jumped (with_register (with_register (with_register r 13 (top + 12)) 0 (word_at s bytes top)) 1 (word_at s bytes (top + 4))) (word_at s bytes (top + 8))) bytes
+    → cpu_step s r bytes ≡ goes (jumped (with_register (with_register (with_register r 13 (top + 12)) 0 (word_in s bytes top)) 1 (word_in s bytes (top + 4))) (word_in s bytes (top + 8))) bytes
 unfolding word_of
 pop s r bytes top is aligned low first second third word =
     let user = not r.svc in
@@ -141,21 +141,21 @@ pop s r bytes top is aligned low first second third word =
     ∙ refused-more 1 s user (top + 4) (omega (arith, low)) second (ap (refused_word 1 s user) at2
     ∙ refused-more 0 s user (top + 8) (omega (arith, low)) third (refused-none s user (next_word (top + 8))))) in
     let r1 = with_register r 13 (top + 12) in
-    let r2 = with_register r1 0 (word_at s bytes top) in
+    let r2 = with_register r1 0 (word_in s bytes top) in
     let same1 = svc-with_register r 13 (top + 12) in
-    let same2 = svc-with_register r1 0 (word_at s bytes top) ∙ same1 in
+    let same2 = svc-with_register r1 0 (word_in s bytes top) ∙ same1 in
     let last : (top + 4 * length (low_registers_in 0x8003)) % 2 ^ 32 ≡ top + 8 = ap (λ ns. (top + 4 * length ns) % 2 ^ 32) low_popped ∙ omega (arith, low) in
     step-ldm_pc s r bytes 14 false true true 13 0x8003 (top + 12) top (fetches_word (Block 14 false true false true true 13 0x8003) (valid_by_test _ refl) word) (holds-always r) refl refl
     ((λ i. moved true (is i) (4 * length (popped i))) ∙ moved-up top 12 (omega (arith, low)))
     (ap (λ b. block_start false true b (top + 12)) is ∙ omega (arith, aligned, low))
     (ap (λ ns. refused_word (length ns) s user top) popped ∙ allowed)
-    ∙ ap (λ at. goes (jumped (with_words (low_registers_in 0x8003) s bytes r1 r.svc top) (word_at s bytes at)) bytes) last
-    ∙ ap (λ x. goes (jumped x (word_at s bytes (top + 8))) bytes)
+    ∙ ap (λ at. goes (jumped (with_words (low_registers_in 0x8003) s bytes r1 r.svc top) (word_in s bytes at)) bytes) last
+    ∙ ap (λ x. goes (jumped x (word_in s bytes (top + 8))) bytes)
     (ap (λ ns. with_words ns s bytes r1 r.svc top) low_popped
     ∙ with_words-more 0 (1 ∷ []) s bytes r1 r.svc top same1
     ∙ with_words-more 1 [] s bytes r2 r.svc (next_word top) same2
     ∙ with_words-none s bytes _ r.svc (next_word (next_word top))
-    ∙ ap (λ at. with_register r2 1 (word_at s bytes at)) at1)
+    ∙ ap (λ at. with_register r2 1 (word_in s bytes at)) at1)
 
 -- BL, and MOV PC,R14 where it leads: back to the instruction behind the BL, with the flags as they are
 call_and_return : (s : Space) (r : Regs) (bytes : List ℕ) (words : ℤ) → IsValidRegs r → length r.low ≡ 13 → FitsOffset words

@@ -13,7 +13,7 @@ use Rattle.arm2_cpu.specs.Access.{moved, offset_of, single_access, block_access,
 use Rattle.arm2_cpu.specs.Block.{registers_in, low_registers_in, next_word, refused_word, stored_value, with_block, with_words, store_block, load_block, load_with_r15, block_step}
 use Rattle.arm2_alu.specs.Conditions.{same, carry, overflow, holds}
 use Rattle.arm2_alu.specs.Results.{flagged, loaded}
-use Rattle.arm2_cpu.specs.Memory.{Space, word_at, byte_at, with_word, with_byte, word_address}
+use Rattle.arm2_cpu.specs.Memory.{Space, word_in, byte_at, with_word, with_byte, word_address}
 use Rattle.arm2_cpu.specs.Multiply.{product, multiplied, multiply_step}
 use Rattle.arm2_alu.specs.Operands.{first_operand, whole_operand, amount_operand}
 use Rattle.arm2_alu.specs.Registers.{register, with_banked, with_register, at_next, jumped}
@@ -104,11 +104,11 @@ access_behind r reg up rn offset at next is moves =
     ∙ (λ i. record { user = not r.svc; address = at; base = rn; written_back = Some (moves i) })
 
 -- what is read and stored
-whole_word : (s : Space) (bytes : List ℕ) (at : ℕ) → at % 4 ≡ 0 → read_unit s bytes false at ≡ word_at s bytes at
+whole_word : (s : Space) (bytes : List ℕ) (at : ℕ) → at % 4 ≡ 0 → read_unit s bytes false at ≡ word_in s bytes at
 unfolding read_unit
 whole_word s bytes at aligned =
     let same : word_address at ≡ at = omega (arith, aligned) in
-    (λ i. rotated (word_at s bytes (same i)) (8 * aligned i)) ∙ unturned (word_at s bytes at)
+    (λ i. rotated (word_in s bytes (same i)) (8 * aligned i)) ∙ unturned (word_in s bytes at)
   where
     unturned : (w : ℕ) → rotated w (8 * 0) ≡ w
     unturned w = omega arith
@@ -200,18 +200,18 @@ moved-down base offset enough small = omega (arith, enough, small)
 pub step-ldr : (s : Space) (r : Regs) (bytes : List ℕ) (cond : ℕ) (reg up : Bool) (rn rd offset at : ℕ)
     → Fetches s r bytes (Single cond reg true up false false true rn rd offset) → holds cond r ≡ true → is_open_offset reg offset ≡ false → rd < 15
     → moved up (first_operand r 8 rn) (offset_of r reg offset) ≡ at → at % 4 ≡ 0 → at < 2 ^ 26 → s.allows (not r.svc) at ≡ true
-    → cpu_step s r bytes ≡ goes (at_next (with_register r rd (word_at s bytes at))) bytes
+    → cpu_step s r bytes ≡ goes (at_next (with_register r rd (word_in s bytes at))) bytes
 step-ldr s r bytes cond reg up rn rd offset at f meets fine low place aligned small allowed =
     single_by_class s r bytes cond reg true up false false true rn rd offset f meets (λ i. fine i || false || false || false)
     ∙ ap (single_step s r bytes true false rd) (access_plain r reg up rn offset at place)
     ∙ load_done s r bytes false rd rn at (not r.svc) None (can_word s at rn (not r.svc) None aligned small allowed)
-    ∙ ap (λ x. goes x bytes) (ap (loaded r rd) (whole_word s bytes at aligned) ∙ loaded-register r rd (word_at s bytes at) low)
+    ∙ ap (λ x. goes x bytes) (ap (loaded r rd) (whole_word s bytes at aligned) ∙ loaded-register r rd (word_in s bytes at) low)
 
 -- LDR PC,[Rn,offset]
 pub step-ldr_pc : (s : Space) (r : Regs) (bytes : List ℕ) (cond : ℕ) (reg up : Bool) (rn offset at : ℕ)
     → Fetches s r bytes (Single cond reg true up false false true rn 15 offset) → holds cond r ≡ true → is_open_offset reg offset ≡ false
     → moved up (first_operand r 8 rn) (offset_of r reg offset) ≡ at → at % 4 ≡ 0 → at < 2 ^ 26 → s.allows (not r.svc) at ≡ true
-    → cpu_step s r bytes ≡ goes (jumped r (word_at s bytes at)) bytes
+    → cpu_step s r bytes ≡ goes (jumped r (word_in s bytes at)) bytes
 unfolding loaded
 step-ldr_pc s r bytes cond reg up rn offset at f meets fine place aligned small allowed =
     single_by_class s r bytes cond reg true up false false true rn 15 offset f meets (λ i. fine i || false || false || false)
@@ -260,12 +260,12 @@ step-strb s r bytes cond reg up rn rd offset at f meets fine low place small all
 pub step-ldr_writeback : (s : Space) (r : Regs) (bytes : List ℕ) (cond : ℕ) (reg up : Bool) (rn rd offset at : ℕ)
     → Fetches s r bytes (Single cond reg true up false true true rn rd offset) → holds cond r ≡ true → is_open_offset reg offset ≡ false → rn < 15 → rd < 15 → (rd == rn) ≡ false
     → moved up (register r rn) (offset_of r reg offset) ≡ at → at % 4 ≡ 0 → at < 2 ^ 26 → s.allows (not r.svc) at ≡ true
-    → cpu_step s r bytes ≡ goes (at_next (with_register (with_register r rn at) rd (word_at s bytes at))) bytes
+    → cpu_step s r bytes ≡ goes (at_next (with_register (with_register r rn at) rd (word_in s bytes at))) bytes
 step-ldr_writeback s r bytes cond reg up rn rd offset at f meets fine base low apart place aligned small allowed =
     single_by_class s r bytes cond reg true up false true true rn rd offset f meets (λ i. fine i || not_r15 rn base i || apart i || false)
     ∙ ap (single_step s r bytes true false rd) (access_written r reg up rn offset at (ap (λ b. moved up b (offset_of r reg offset)) (first-register r 8 rn base) ∙ place))
     ∙ load_done s r bytes false rd rn at (not r.svc) (Some at) (can_word s at rn (not r.svc) (Some at) aligned small allowed)
-    ∙ ap (λ x. goes x bytes) (ap (loaded (with_register r rn at) rd) (whole_word s bytes at aligned) ∙ loaded-register (with_register r rn at) rd (word_at s bytes at) low)
+    ∙ ap (λ x. goes x bytes) (ap (loaded (with_register r rn at) rd) (whole_word s bytes at aligned) ∙ loaded-register (with_register r rn at) rd (word_in s bytes at) low)
 
 -- STR Rd,[Rn,offset]!
 pub step-str_writeback : (s : Space) (r : Regs) (bytes : List ℕ) (cond : ℕ) (reg up : Bool) (rn rd offset at : ℕ)
@@ -303,12 +303,12 @@ step-strb_writeback s r bytes cond reg up rn rd offset at f meets fine base low 
 pub step-ldr_behind : (s : Space) (r : Regs) (bytes : List ℕ) (cond : ℕ) (reg up : Bool) (rn rd offset at next : ℕ)
     → Fetches s r bytes (Single cond reg false up false false true rn rd offset) → holds cond r ≡ true → is_open_offset reg offset ≡ false → rn < 15 → rd < 15 → (rd == rn) ≡ false
     → register r rn ≡ at → moved up at (offset_of r reg offset) ≡ next → at % 4 ≡ 0 → at < 2 ^ 26 → s.allows (not r.svc) at ≡ true
-    → cpu_step s r bytes ≡ goes (at_next (with_register (with_register r rn next) rd (word_at s bytes at))) bytes
+    → cpu_step s r bytes ≡ goes (at_next (with_register (with_register r rn next) rd (word_in s bytes at))) bytes
 step-ldr_behind s r bytes cond reg up rn rd offset at next f meets fine base low apart place moves aligned small allowed =
     single_by_class s r bytes cond reg false up false false true rn rd offset f meets (λ i. fine i || not_r15 rn base i || apart i || false)
     ∙ ap (single_step s r bytes true false rd) (access_behind r reg up rn offset at next (first-register r 8 rn base ∙ place) moves)
     ∙ load_done s r bytes false rd rn at (not r.svc) (Some next) (can_word s at rn (not r.svc) (Some next) aligned small allowed)
-    ∙ ap (λ x. goes x bytes) (ap (loaded (with_register r rn next) rd) (whole_word s bytes at aligned) ∙ loaded-register (with_register r rn next) rd (word_at s bytes at) low)
+    ∙ ap (λ x. goes x bytes) (ap (loaded (with_register r rn next) rd) (whole_word s bytes at aligned) ∙ loaded-register (with_register r rn next) rd (word_in s bytes at) low)
 
 -- STR Rd,[Rn],offset
 pub step-str_behind : (s : Space) (r : Regs) (bytes : List ℕ) (cond : ℕ) (reg up : Bool) (rn rd offset at next : ℕ)
@@ -378,7 +378,7 @@ ldm_done s r bytes list start rn back allowed clear = rw (allowed, clear) refl
 
 ldm_pc_done : (s : Space) (r : Regs) (bytes : List ℕ) (list start rn : ℕ) (back : Option ℕ) → refused_word (length (registers_in list)) s (not r.svc) start ≡ None → bit list 15 ≡ true
     → block_step s r bytes false true list (record { user = not r.svc; address = start; base = rn; written_back = back })
-    ≡ goes (jumped (with_words (low_registers_in list) s bytes (with_base_taking back r rn) r.svc start) (word_at s bytes ((start + 4 * length (low_registers_in list)) % 2 ^ 32))) bytes
+    ≡ goes (jumped (with_words (low_registers_in list) s bytes (with_base_taking back r rn) r.svc start) (word_in s bytes ((start + 4 * length (low_registers_in list)) % 2 ^ 32))) bytes
 unfolding block_step load_block load_with_r15
 ldm_pc_done s r bytes list start rn back allowed set = rw (allowed, set) refl
 
@@ -409,7 +409,7 @@ pub step-ldm_pc : (s : Space) (r : Regs) (bytes : List ℕ) (cond : ℕ) (pre up
     → Fetches s r bytes (Block cond pre up false wb true rn list) → holds cond r ≡ true → is_unpredictable_block false wb true rn list ≡ false → bit list 15 ≡ true
     → moved up (register r rn) (4 * length (registers_in list)) ≡ target → block_start pre up (register r rn) target ≡ start
     → refused_word (length (registers_in list)) s (not r.svc) start ≡ None
-    → cpu_step s r bytes ≡ goes (jumped (with_words (low_registers_in list) s bytes (with_base_taking (taken_back wb target) r rn) r.svc start) (word_at s bytes ((start + 4 * length (low_registers_in list)) % 2 ^ 32))) bytes
+    → cpu_step s r bytes ≡ goes (jumped (with_words (low_registers_in list) s bytes (with_base_taking (taken_back wb target) r rn) r.svc start) (word_in s bytes ((start + 4 * length (low_registers_in list)) % 2 ^ 32))) bytes
 step-ldm_pc s r bytes cond pre up wb rn list target start f meets fine set moves begins allowed =
     block_by_class s r bytes cond pre up false wb true rn list f meets fine
     ∙ ap (block_step s r bytes false true list) (access_block r pre up wb rn (length (registers_in list)) target start moves begins)
@@ -428,9 +428,9 @@ pub with_words-none : (s : Space) (bytes : List ℕ) (r : Regs) (svc : Bool) (at
 unfolding with_words
 with_words-none s bytes r svc at = refl
 
-pub with_words-more : (n : ℕ) (ns : List ℕ) (s : Space) (bytes : List ℕ) (r : Regs) (svc : Bool) (at : ℕ) → r.svc ≡ svc → with_words (n ∷ ns) s bytes r svc at ≡ with_words ns s bytes (with_register r n (word_at s bytes at)) svc (next_word at)
+pub with_words-more : (n : ℕ) (ns : List ℕ) (s : Space) (bytes : List ℕ) (r : Regs) (svc : Bool) (at : ℕ) → r.svc ≡ svc → with_words (n ∷ ns) s bytes r svc at ≡ with_words ns s bytes (with_register r n (word_in s bytes at)) svc (next_word at)
 unfolding with_words
-with_words-more n ns s bytes r svc at is = (λ i. with_words ns s bytes (with_banked (sym is i) r n (word_at s bytes at)) svc (next_word at))
+with_words-more n ns s bytes r svc at is = (λ i. with_words ns s bytes (with_banked (sym is i) r n (word_in s bytes at)) svc (next_word at))
 
 pub refused-none : (s : Space) (user : Bool) (at : ℕ) → refused_word 0 s user at ≡ None
 unfolding refused_word

@@ -6,7 +6,7 @@ use Rattle.arm2_alu.specs.declared.regs.Regs.{Regs}
 use Rattle.arm_isa.specs.Numbers.{R15}
 use Rattle.arm2_cpu.specs.Access.{with_base, can_use, data_trapped}
 use Rattle.arm_isa.specs.Fields.{bit}
-use Rattle.arm2_cpu.specs.Memory.{Space, word_at, with_word}
+use Rattle.arm2_cpu.specs.Memory.{Space, word_in, with_word}
 use Rattle.arm2_cpu.specs.Outcomes.{Done, Stepped, with_memory, ran, trapped}
 use Rattle.arm2_alu.specs.Registers.{banked, with_banked, r15, at_next, jumped, takes_psr, with_psr}
 
@@ -51,7 +51,7 @@ with_block (n ∷ ns) s bytes r svc at = with_block ns s (with_word s bytes at (
 -- the registers with the words from an address up
 unfoldable pub with_words : List ℕ → Space → List ℕ → Regs → Bool → ℕ → Regs
 with_words [] s bytes r svc at = r
-with_words (n ∷ ns) s bytes r svc at = with_words ns s bytes (with_banked svc r n (word_at s bytes at)) svc (next_word at)
+with_words (n ∷ ns) s bytes r svc at = with_words ns s bytes (with_banked svc r n (word_in s bytes at)) svc (next_word at)
 
 -- STM: the registers are stored as they were; then the base takes its value
 unfoldable pub store_block : Space → Regs → List ℕ → Bool → ℕ → Access → Stepped
@@ -60,7 +60,7 @@ store_block s r bytes psr list a =
 
 -- the word for R15 is the last
 abbrev pub last_word : Space → List ℕ → ℕ → Access → ℕ
-last_word s bytes list a = word_at s bytes ((a.address + 4 * length (low_registers_in list)) % 2 ^ 32)
+last_word s bytes list a = word_in s bytes ((a.address + 4 * length (low_registers_in list)) % 2 ^ 32)
 
 -- the base takes its value, and the registers below R15 theirs
 abbrev pub with_low_words : Space → Regs → List ℕ → Bool → ℕ → Access → Regs

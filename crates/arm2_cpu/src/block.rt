@@ -2,7 +2,7 @@ ghost use Rattle.std.specs.Prelude.{◌≡◌, ◌≤◌, ◌<◌, ◌%◌, ◌^
 ghost use Rattle.arm2_cpu.specs.Access.{can_use};
 ghost use Rattle.arm2_cpu.specs.Block.{registers_among, registers_in, low_registers_in, next_word, refused_word, stored_value, with_block, with_words, store_block, last_word, with_low_words, load_with_r15, load_block, block_step};
 ghost use Rattle.arm_isa.specs.Fields.{bit};
-ghost use Rattle.arm2_cpu.specs.Memory.{word_at, with_word};
+ghost use Rattle.arm2_cpu.specs.Memory.{word_in, with_word};
 
 use crate::access::{Access, write_base};
 use crate::event::{CpuEvent, data_trap, trap};
@@ -66,7 +66,7 @@ fn first_refused<M: Memory>(mem: &M, user: bool, start: u32, count: u32) -> Opti
 fn word_of<M: Memory>(mem: &M, user: bool, at: u32) -> u32
     requires aligned { at % 4 ≡ 0 }
     requires allowed { can_use M.space user at ≡ true }
-    ensures { result ≡ word_at M.space (M.bytes mem.now) at }
+    ensures { result ≡ word_in M.space (M.bytes mem.now) at }
 {
     match mem.word(user, at) {
         Some(word) => word,

@@ -76,7 +76,7 @@ impl<P: Place> Memory for Window<P> {
 
     ghost bytes = { λ w. w };
 
-    #[tactic(auto, using(crate::proofs::Windows::same_word), unfolding(arm2_cpu::specs::Memory::read_word))]
+    #[tactic(auto, unfolding(arm2_cpu::specs::Memory::read_word))]
     #[inline]
     fn word(&self, user: bool, at: u32) -> Option<u32> {
         // The proof learns here how long the RAM is.
@@ -99,7 +99,7 @@ impl<P: Place> Memory for Window<P> {
         }
     }
 
-    #[tactic(auto, unfolding(arm2_cpu::specs::Memory::wrote_word, arm2_cpu::specs::Memory::with_bytes, bv_base::specs::Words::put_at))]
+    #[tactic(auto, unfolding(arm2_cpu::specs::Memory::wrote_word))]
     #[inline]
     fn set_word(&mut self, user: bool, at: u32, v: u32) -> bool {
         let allowed = allows::<P>(user, at);
@@ -109,7 +109,7 @@ impl<P: Place> Memory for Window<P> {
         allowed
     }
 
-    #[tactic(auto, using(crate::proofs::Windows::byte_put), unfolding(arm2_cpu::specs::Memory::wrote_byte))]
+    #[tactic(auto, using(bv_base::proofs::Words::slice_set_is_put), unfolding(arm2_cpu::specs::Memory::wrote_byte))]
     #[inline]
     fn set_byte(&mut self, user: bool, at: u32, v: u8) -> bool {
         let allowed = allows::<P>(user, at);
