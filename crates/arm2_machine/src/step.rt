@@ -2,7 +2,7 @@
 ghost use Rattle.std.specs.Prelude.{◌≡◌};
 
 use crate::machine::Machine;
-use arm2_cpu::{CpuEvent, step_cpu};
+use arm2_cpu::{CpuEvent, Pc, step_cpu};
 use bv_base::{PAD, RETURN_ENTRY};
 use bv_run::{Report, Trap};
 
@@ -27,10 +27,24 @@ pub enum StepOutcome {
 }
 
 impl Machine {
-    ghost use Rattle.arm2_machine.specs.Step.{board_step, turn_of};
+    ghost use Rattle.arm2_machine.specs.Step.{after_event, board_step, turn_of};
+
+    /// Carries out what an instruction's event comes to, which most instructions have none of. The instruction stands at
+    /// the address.
+    #[inline(never)]
+    fn follow(&mut self, at: Pc, event: CpuEvent) -> StepOutcome
+        ensures { after_event self.old at event ≡ turn_of result self.new }
+    {
+        match event {
+            CpuEvent::Ran => StepOutcome::Continued(Output::Nothing),
+            CpuEvent::Swi(number) => self.call(at, number),
+            CpuEvent::Trap { kind, address } => self.trap(kind, address),
+        }
+    }
 
     #[tactic(auto, unfolding(crate::specs::Step::board_step))]
     /// Makes one instruction.
+    #[inline]
     pub(crate) fn step(&mut self) -> StepOutcome
         ensures { board_step self.old ≡ turn_of result self.new }
     {
@@ -41,8 +55,7 @@ impl Machine {
         let at = self.regs.pc;
         match step_cpu(&mut self.regs, &mut self.ram) {
             CpuEvent::Ran => StepOutcome::Continued(Output::Nothing),
-            CpuEvent::Swi(number) => self.call(at, number),
-            CpuEvent::Trap { kind, address } => self.trap(kind, address),
+            event => self.follow(at, event),
         }
     }
 }
