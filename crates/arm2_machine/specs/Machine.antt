@@ -1,6 +1,6 @@
 -- The board's machine: its state, its start, and what it does at a trap. This project's own, but for the registers, which
 -- are the ARM2's.
-use Rattle.std.specs.Prelude.{ℕ, ◌-◌, ◌*◌, Bool, true, false, if◌then◌else◌, List, [], ◌++◌, length, take, drop, flat_map, replicate, slice_set, Option, refl}
+use Rattle.std.specs.Prelude.{ℕ, ◌-◌, ◌*◌, true, false, if◌then◌else◌, List, [], ◌++◌, length, take, drop, flat_map, replicate, slice_set, Option, refl}
 use Rattle.std.proofs.Common.{lit≤}
 use Rattle.bv_base.specs.MemoryMap.{arena_start, arena_end, arena_bytes}
 use Rattle.bv_run.specs.declared.report.Trap.{Trap}

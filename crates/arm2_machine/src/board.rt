@@ -116,20 +116,23 @@ impl Board {
         ensures cause { OnErr result (Rose (O.faults out.old) (O.faults out.new)) }
         ensures faults { O.faults out.old ≤ O.faults out.new }
     {
-        'steps: for made in 0..bound {
-            match self.machine.step() {
+        let mut made = 0;
+        'steps: while made < bound {
+            let stretch = self.machine.advance(bound - made);
+            made += stretch.before + 1;
+            match self.machine.follow(stretch.at, stretch.event) {
                 StepOutcome::Continued(output) => {
                     if let Err(fault) = write(out, output) {
-                        self.note(made + 1, true);
+                        self.note(made, true);
                         return Err(fault);
                     }
                 }
                 StepOutcome::Over(report) => {
-                    self.note(made + 1, true);
+                    self.note(made, true);
                     return Ok(RunEnd::Over(report));
                 }
                 StepOutcome::Broken { kind, address } => {
-                    self.note(made + 1, true);
+                    self.note(made, true);
                     return Ok(RunEnd::Broken { kind, address });
                 }
             }

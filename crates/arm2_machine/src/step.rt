@@ -1,5 +1,5 @@
-//! One step of the machine, and what becomes of it.
-ghost use Rattle.std.specs.Prelude.{◌≡◌};
+//! The steps of the machine, and what becomes of them.
+ghost use Rattle.std.specs.Prelude.{◌≡◌, ◌<◌};
 
 use crate::machine::Machine;
 use arm2_cpu::{CpuEvent, Pc, step_cpu};
@@ -26,36 +26,57 @@ pub enum StepOutcome {
     Broken { kind: Trap, address: u32 },
 }
 
+/// A stretch of instructions: the number of those before the last, which have no event, and the last one's address and
+/// event.
+#[derive(Clone, Copy, Debug, PartialEq, Eq)]
+pub struct Stretch {
+    pub before: u64,
+    pub at: Pc,
+    pub event: CpuEvent,
+}
+
 impl Machine {
     ghost use Rattle.arm2_machine.specs.Step.{after_event, board_step, turn_of};
+    ghost use Rattle.arm2_machine.specs.Stretch.{MakesStretch};
 
-    /// Carries out what an instruction's event comes to, which most instructions have none of. The instruction stands at
-    /// the address.
+    #[tactic(auto, unfolding(crate::specs::Step::board_step))]
+    /// Makes one instruction, but for what its event comes to.
+    #[inline]
+    fn instruct(&mut self) -> CpuEvent
+        ensures { board_step self.old ≡ after_event self.new self.old.regs.pc result }
+    {
+        if !self.regs.svc && self.regs.pc.address() == PAD {
+            self.enter(RETURN_ENTRY);
+            return CpuEvent::Ran;
+        }
+        step_cpu(&mut self.regs, &mut self.ram)
+    }
+
+    /// Makes instructions up to the first that has an event, or `most` of them. What that event comes to is left to
+    /// `follow`. This is the inner loop of a run: it neither counts for the board nor writes.
     #[inline(never)]
-    fn follow(&mut self, at: Pc, event: CpuEvent) -> StepOutcome
+    pub(crate) fn advance(&mut self, most: u64) -> Stretch
+        requires { 0 < most }
+        ensures { MakesStretch most self.old result self.new }
+    {
+        let mut before = 0;
+        'plain: loop {
+            let at = self.regs.pc;
+            match self.instruct() {
+                CpuEvent::Ran if before + 1 < most => before += 1,
+                event => return Stretch { before, at, event },
+            }
+        }
+    }
+
+    /// Carries out what an instruction's event comes to. The instruction stands at the address.
+    pub(crate) fn follow(&mut self, at: Pc, event: CpuEvent) -> StepOutcome
         ensures { after_event self.old at event ≡ turn_of result self.new }
     {
         match event {
             CpuEvent::Ran => StepOutcome::Continued(Output::Nothing),
             CpuEvent::Swi(number) => self.call(at, number),
             CpuEvent::Trap { kind, address } => self.trap(kind, address),
-        }
-    }
-
-    #[tactic(auto, unfolding(crate::specs::Step::board_step))]
-    /// Makes one instruction.
-    #[inline]
-    pub(crate) fn step(&mut self) -> StepOutcome
-        ensures { board_step self.old ≡ turn_of result self.new }
-    {
-        if !self.regs.svc && self.regs.pc.address() == PAD {
-            self.enter(RETURN_ENTRY);
-            return StepOutcome::Continued(Output::Nothing);
-        }
-        let at = self.regs.pc;
-        match step_cpu(&mut self.regs, &mut self.ram) {
-            CpuEvent::Ran => StepOutcome::Continued(Output::Nothing),
-            event => self.follow(at, event),
         }
     }
 }
