@@ -1,6 +1,6 @@
 -- The class of a word by its bits.
 use Rattle.std.proofs.Common.{◌≡◌, ◌≢◌, ℕ, zero, suc, ◌/◌, ◌%◌, ◌^◌, ◌<◌, Bool, true, false, ◌==◌, ◌&&◌, if◌then◌else◌, refl, sym, subst, ◌∙◌, arith, eq-eqb, eqb-true}
-use Rattle.std.proofs.lemmas.Bool.{and_parts}
+use Rattle.std.proofs.lemmas.Bool.{and_parts, eqb-false}
 use Rattle.std.proofs.lemmas.Bool.Decides.{eqb_tells}
 use Rattle.std.proofs.Common.{inl, inr}
 use Rattle.arm_isa.specs.declared.classes.Class.{Class}
@@ -79,6 +79,18 @@ pub class-group_3 : (w : ℕ) → bits w 27 25 ≡ 3 → class_of w ≡ (if bit 
 class-group_3 w is =
     let top = eq-eqb (bits w 27 26) 1 (omega (arith, is)) in
     class-later w (omega (arith, is)) ∙ rw (is, top) refl
+
+-- bits 27 and 26 are 01
+pub class-single : (w : ℕ) → bits w 27 26 ≡ 1 → class_of w ≡ (if bit w 25 && bit w 4 then Undefined else Single)
+class-single w is = cases (bit w 25) refl
+  where
+    cases : (t : Bool) → bit w 25 ≡ t → class_of w ≡ (if bit w 25 && bit w 4 then Undefined else Single)
+    cases true e =
+        let one = eqb-true (w / 2 ^ 25 % 2) 1 e in
+        class-group_3 w (omega (arith, is, one)) ∙ rw e refl
+    cases false e =
+        let zero = eqb-false (w / 2 ^ 25 % 2) 1 e in
+        class-group_2 w (omega (arith, is, zero)) ∙ rw e refl
 
 pub class-group_4 : (w : ℕ) → bits w 27 25 ≡ 4 → class_of w ≡ Block
 class-group_4 w is =
