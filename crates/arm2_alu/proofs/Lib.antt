@@ -1,3 +1,4 @@
+-- The laws of registers, flags, shifts and operations.
 mod ShiftLaws
 mod OperandLaws
 pub mod RegisterLaws

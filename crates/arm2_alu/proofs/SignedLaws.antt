@@ -90,7 +90,7 @@ signed_ge a b = ge (minus a b) (cast_signed w32 a -ℤ cast_signed w32 b)
 at_signed : (a b : ℕ) (x y : ℤ) (t : Bool) → cast_signed w32 a ≡ x → cast_signed w32 b ≡ y → ge (minus a b) (x -ℤ y) ≡ t → signed_ge a b ≡ t
 at_signed a b x y t e f is = (λ i. ge (minus a b) (e i -ℤ f i)) ∙ is
 
--- GE holds behind a comparison exactly where the first number isn't below the second, as signed numbers
+-- GE holds after a comparison exactly where the first number isn't below the second, as signed numbers
 pub ge-by_order : (a b : ℕ) → a < 2 ^ 32 → b < 2 ^ 32 → (cast_signed w32 b ≤ℤ cast_signed w32 a → signed_ge a b ≡ true) × (cast_signed w32 a <ℤ cast_signed w32 b → signed_ge a b ≡ false)
 ge-by_order a b x1 y1 = cases (nat_lt a (2 ^ 31)) (nat_lt b (2 ^ 31)) refl refl
   where

@@ -403,7 +403,7 @@ second-ror r amount rm some few low =
     ∙ ap (λ (x : Shifted). x.value) (shifted-ror (register r rm) amount (carry r) some)
     ∙ ap (rotated (register r rm)) (let e : amount % 32 ≡ amount = omega (arith, few) in e)
 
--- Rm shifted by a register's low byte, which is left open of R15
+-- Rm shifted by a register's low byte: R15 in its place is unpredictable
 pub not_open-by_register : (rs kind rm : ℕ) → rs < 15 → kind < 4 → rm < 15 → (bits (rs * 2 ^ 8 + kind * 2 ^ 5 + 1 * 2 ^ 4 + rm) 11 8 == R15) ≡ false
 not_open-by_register rs kind rm amount four low = ne_eqb (bits (rs * 2 ^ 8 + kind * 2 ^ 5 + 1 * 2 ^ 4 + rm) 11 8) 15 (λ e. omega (arith, e, amount, four, low))
 

@@ -35,7 +35,7 @@ with_register r n value = with_banked r.svc r n value
 abbrev pub mode : Bool → ℕ
 mode svc = if svc then 3 else 0
 
--- the address so many bytes ahead of the instruction, modulo 2^26
+-- the address n bytes ahead of the instruction, modulo 2^26. That it wraps there is this project's own.
 abbrev pub pc_ahead : Regs → ℕ → ℕ
 pc_ahead r ahead = (r.pc + ahead) % 2 ^ 26
 

@@ -30,7 +30,7 @@ shifted_signed n by = if bit n 31 then complemented (shifted_right (complement n
 unfoldable pub turned_right : ℕ → ℕ → Shifted
 turned_right n by = let value = rotated n (by % 32) in record { value = value; carry = bit value 31 }
 
--- a shift by an amount, which is the number of bits for LSL, and for the others from 1 up; 0 leaves value and carry
+-- LSL, LSR, ASR or ROR by a number of bits from 0 to 255: by 0 the value and C stay
 unfoldable pub shifted : ℕ → ℕ → ℕ → Bool → Shifted
 shifted kind n by c =
     if by == 0 then record { value = n; carry = c }

@@ -1,3 +1,4 @@
+//! The second operand of data processing, which is also the register offset of a transfer.
 ghost use Rattle.std.specs.Prelude.{◌≡◌, ◌<◌, ◌≤◌, ◌%◌, ◌/◌, ◌^◌};
 ghost use Rattle.arm_isa.specs.Immediates.{immediate_value, turns_of};
 ghost use Rattle.arm2_alu.specs.Operands.{by_register, ahead_of, immediate_operand, amount_operand, register_operand, second_operand};

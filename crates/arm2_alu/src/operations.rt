@@ -1,3 +1,4 @@
+//! The sixteen operations of data processing.
 ghost use Rattle.std.specs.Prelude.{◌≡◌, not, true, pos, ◌+ℤ◌, ◌-ℤ◌};
 ghost use Rattle.std.specs.Int.{w32, cast_signed, from_bool};
 ghost use Rattle.arm2_alu.specs.Operations.{is_signed_word, added, subtracted, is_test, computed};

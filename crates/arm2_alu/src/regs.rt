@@ -116,7 +116,7 @@ impl Regs {
     }
 
     #[tactic(auto, unfolding(crate::specs::Registers::r15))]
-    /// R15 with its flags and mode, where its address reads as so many bytes ahead of the instruction.
+    /// R15 with its flags and mode, where its address reads as `ahead` bytes ahead of the instruction.
     pub fn r15(&self, ahead: u32) -> u32
         requires { ahead % 4 ≡ 0 }
         ensures { result ≡ r15 self.now ahead }
@@ -125,7 +125,7 @@ impl Regs {
         u32::from(self.psr.bits()) * PC_END + self.pc.plus(ahead).address() + mode
     }
 
-    /// A register as Rn, where R15 is an address so many bytes ahead of the instruction.
+    /// A register as Rn, where R15 is an address `ahead` bytes ahead of the instruction.
     #[tactic(auto, unfolding(crate::specs::Operands::first_operand, crate::specs::Registers::banked))]
     #[inline]
     pub fn first_operand(&self, ahead: u32, n: u8) -> u32

@@ -1,3 +1,4 @@
+//! The shifts of a register operand.
 ghost use Rattle.std.specs.Prelude.{◌≡◌, ◌<◌, ◌≤◌};
 ghost use Rattle.arm2_alu.specs.Shifts.{shifted_left, shifted_right, shifted_signed, turned_right, shifted, rotated_through_carry, shifted_by_field};
 

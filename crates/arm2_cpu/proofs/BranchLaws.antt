@@ -15,6 +15,6 @@ pub ruleset target_laws = (target_is)
 pub target-ahead : (r : Regs) (words : ℕ) → r.pc + 8 + 4 * words < 2 ^ 26 → branch_target r (pos words) ≡ r.pc + 8 + 4 * words
 target-ahead r words low = omega (arith, low)
 
--- so many words back, of which one leads to the next instruction
+-- n + 1 words back, of which one leads to the next instruction
 pub target-back : (r : Regs) (words : ℕ) → 4 * (words + 1) ≤ r.pc + 8 → words < 2 ^ 23 → r.pc + 4 < 2 ^ 26 → branch_target r (negsuc words) ≡ r.pc + 8 - 4 * (words + 1)
 target-back r words enough fits low = omega (arith, enough, fits, low)

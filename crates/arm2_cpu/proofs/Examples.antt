@@ -103,10 +103,10 @@ push : (s : Space) (r : Regs) (bytes : List ℕ) (top : ℕ) → register r 13 �
     → cpu_step s r bytes ≡ goes (at_next (with_register r 13 (top - 8))) (with_word s (with_word s bytes (top - 8) (register r 0)) (top - 4) (register r 14))
 unfolding word_of
 push s r bytes top is room aligned low first second word =
-    let behind : next_word (top - 8) ≡ top - 4 = omega (arith, room, low) in
+    let above : next_word (top - 8) ≡ top - 4 = omega (arith, room, low) in
     let user = not r.svc in
     let allowed : refused_word 2 s user (top - 8) ≡ None =
-    refused-more 1 s user (top - 8) (omega (arith, low)) first (ap (refused_word 1 s user) behind ∙ refused-more 0 s user (top - 4) (omega (arith, low)) second (refused-none s user (next_word (top - 4)))) in
+    refused-more 1 s user (top - 8) (omega (arith, low)) first (ap (refused_word 1 s user) above ∙ refused-more 0 s user (top - 4) (omega (arith, low)) second (refused-none s user (next_word (top - 4)))) in
     step-stm s r bytes 14 true false true 13 0x4001 (top - 8) (top - 8) (fetches_word (Block 14 true false false true false 13 0x4001) (valid_by_test _ refl) word) (holds-always r) refl
     ((λ i. moved false (is i) (4 * length (two_registers i))) ∙ moved-down top 8 room (omega (arith, low)))
     (omega (arith, room, aligned, low))
@@ -116,7 +116,7 @@ push s r bytes top is room aligned low first second word =
     ∙ with_block-more 0 (14 ∷ []) s bytes r (top - 8) (omega arith)
     ∙ with_block-more 14 [] s (with_word s bytes (top - 8) (register r 0)) r (next_word (top - 8)) (omega arith)
     ∙ with_block-none s _ r r.svc (next_word (next_word (top - 8)))
-    ∙ ap (λ at. with_word s (with_word s bytes (top - 8) (register r 0)) at (register r 14)) behind)
+    ∙ ap (λ at. with_word s (with_word s bytes (top - 8) (register r 0)) at (register r 14)) above)
 
 -- LDMIA R13!,{R0,R1,PC}: three words from a stack that grows down, of which the last is where to go on
 low_popped : low_registers_in 0x8003 ≡ 0 ∷ 1 ∷ []
@@ -157,7 +157,7 @@ pop s r bytes top is aligned low first second third word =
     ∙ with_words-none s bytes _ r.svc (next_word (next_word top))
     ∙ ap (λ at. with_register r2 1 (word_in s bytes at)) at1)
 
--- BL, and MOV PC,R14 where it leads: back to the instruction behind the BL, with the flags as they are
+-- BL, and MOV PC,R14 where it leads: back to the instruction after the BL, with the flags as they are
 call_and_return : (s : Space) (r : Regs) (bytes : List ℕ) (words : ℤ) → IsValidRegs r → length r.low ≡ 13 → FitsOffset words
     → read_word s bytes (not r.svc) r.pc ≡ Some (word_of (Branch 14 true words))
     → read_word s bytes (not r.svc) (branch_target r words) ≡ Some 0xe1a0f00e

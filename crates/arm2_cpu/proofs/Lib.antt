@@ -1,3 +1,4 @@
+-- The laws of one instruction.
 mod ProductLaws
 pub mod BranchLaws
 mod MemoryReads

@@ -82,12 +82,12 @@ when_listed : (s : Space) (r : Regs) (bytes : List ℕ) (i : Instr) → is_unpre
 unfolding instruction_step
 when_listed s r bytes i listed = cond-true (is_unpredictable i) _ _ listed
 
--- a condition that holds, of an instruction that isn't left open
+-- a condition that holds, of an instruction that isn't unpredictable
 pub step-by_class : (s : Space) (r : Regs) (bytes : List ℕ) (i : Instr) → Fetches s r bytes i → holds (condition_of i) r ≡ true → is_unpredictable i ≡ false → cpu_step s r bytes ≡ class_step s r bytes i
 step-by_class s r bytes i f meets open_not =
     by_word s r bytes i f ∙ by_condition s r bytes i f ∙ cond-true (holds (condition_of i) r) _ _ meets ∙ unlisted s r bytes i open_not
 
--- an instruction that is left open traps
+-- an unpredictable instruction traps
 pub step-unpredictable : (s : Space) (r : Regs) (bytes : List ℕ) (i : Instr) → Fetches s r bytes i → holds (condition_of i) r ≡ true → is_unpredictable i ≡ true → cpu_step s r bytes ≡ with_memory bytes (trapped traps.Unpredictable r)
 step-unpredictable s r bytes i f meets listed =
     by_word s r bytes i f ∙ by_condition s r bytes i f ∙ cond-true (holds (condition_of i) r) _ _ meets ∙ when_listed s r bytes i listed

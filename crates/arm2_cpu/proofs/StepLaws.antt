@@ -31,7 +31,7 @@ loaded-register r rd value low = rw (not_r15 rd low) refl
 
 -- ---- data processing
 
--- data processing that is carried out
+-- data processing that is executed
 data_by_class : (s : Space) (r : Regs) (bytes : List ℕ) (cond : ℕ) (imm : Bool) (op : ℕ) (flags : Bool) (rn rd op2 : ℕ)
     → Fetches s r bytes (Data cond imm op flags rn rd op2) → holds cond r ≡ true → is_unpredictable_data imm op flags op2 ≡ false
     → cpu_step s r bytes ≡ with_memory bytes (data_step r imm op flags rn rd op2)

@@ -95,11 +95,11 @@ access_written : (r : Regs) (reg up : Bool) (rn offset at : ℕ) → moved up (f
 unfolding single_access
 access_written r reg up rn offset at is = (λ i. record { user = or-false (not r.svc) i; address = is i; base = rn; written_back = Some (is i) })
 
--- the base is moved behind the access
-access_behind : (r : Regs) (reg up : Bool) (rn offset at next : ℕ) → first_operand r 8 rn ≡ at → moved up at (offset_of r reg offset) ≡ next
+-- the base is moved after the access
+access_after : (r : Regs) (reg up : Bool) (rn offset at next : ℕ) → first_operand r 8 rn ≡ at → moved up at (offset_of r reg offset) ≡ next
     → single_access r reg false up false rn offset ≡ record { user = not r.svc; address = at; base = rn; written_back = Some next }
 unfolding single_access
-access_behind r reg up rn offset at next is moves =
+access_after r reg up rn offset at next is moves =
     (λ i. record { user = or-false (not r.svc) i; address = is i; base = rn; written_back = Some (moved up (is i) (offset_of r reg offset)) })
     ∙ (λ i. record { user = not r.svc; address = at; base = rn; written_back = Some (moves i) })
 
@@ -154,7 +154,7 @@ pub offset-number : (r : Regs) (offset : ℕ) → offset_of r false offset ≡ o
 unfolding offset_of
 offset-number r offset = refl
 
--- an offset that is Rm, or Rm shifted by a number of bits: it isn't left open
+-- an offset that is Rm, or Rm shifted by a number of bits: it isn't unpredictable
 pub not_open-offset_register : (rm : ℕ) → rm < 15 → is_open_offset true rm ≡ false
 not_open-offset_register rm low = ne_eqb (bits rm 3 0) 15 (λ e. omega (arith, e, low))
 
@@ -300,45 +300,45 @@ step-strb_writeback s r bytes cond reg up rn rd offset at f meets fine base low 
     ∙ ap (goes (at_next (with_register r rn at))) (stored_byte s r bytes rd at low)
 
 -- LDR Rd,[Rn],offset
-pub step-ldr_behind : (s : Space) (r : Regs) (bytes : List ℕ) (cond : ℕ) (reg up : Bool) (rn rd offset at next : ℕ)
+pub step-ldr_after : (s : Space) (r : Regs) (bytes : List ℕ) (cond : ℕ) (reg up : Bool) (rn rd offset at next : ℕ)
     → Fetches s r bytes (Single cond reg false up false false true rn rd offset) → holds cond r ≡ true → is_open_offset reg offset ≡ false → rn < 15 → rd < 15 → (rd == rn) ≡ false
     → register r rn ≡ at → moved up at (offset_of r reg offset) ≡ next → at % 4 ≡ 0 → at < 2 ^ 26 → s.allows (not r.svc) at ≡ true
     → cpu_step s r bytes ≡ goes (at_next (with_register (with_register r rn next) rd (word_in s bytes at))) bytes
-step-ldr_behind s r bytes cond reg up rn rd offset at next f meets fine base low apart place moves aligned small allowed =
+step-ldr_after s r bytes cond reg up rn rd offset at next f meets fine base low apart place moves aligned small allowed =
     single_by_class s r bytes cond reg false up false false true rn rd offset f meets (λ i. fine i || not_r15 rn base i || apart i || false)
-    ∙ ap (single_step s r bytes true false rd) (access_behind r reg up rn offset at next (first-register r 8 rn base ∙ place) moves)
+    ∙ ap (single_step s r bytes true false rd) (access_after r reg up rn offset at next (first-register r 8 rn base ∙ place) moves)
     ∙ load_done s r bytes false rd rn at (not r.svc) (Some next) (can_word s at rn (not r.svc) (Some next) aligned small allowed)
     ∙ ap (λ x. goes x bytes) (ap (loaded (with_register r rn next) rd) (whole_word s bytes at aligned) ∙ loaded-register (with_register r rn next) rd (word_in s bytes at) low)
 
 -- STR Rd,[Rn],offset
-pub step-str_behind : (s : Space) (r : Regs) (bytes : List ℕ) (cond : ℕ) (reg up : Bool) (rn rd offset at next : ℕ)
+pub step-str_after : (s : Space) (r : Regs) (bytes : List ℕ) (cond : ℕ) (reg up : Bool) (rn rd offset at next : ℕ)
     → Fetches s r bytes (Single cond reg false up false false false rn rd offset) → holds cond r ≡ true → is_open_offset reg offset ≡ false → rn < 15 → rd < 15
     → register r rn ≡ at → moved up at (offset_of r reg offset) ≡ next → at % 4 ≡ 0 → at < 2 ^ 26 → s.allows (not r.svc) at ≡ true
     → cpu_step s r bytes ≡ goes (at_next (with_register r rn next)) (with_word s bytes at (register r rd))
-step-str_behind s r bytes cond reg up rn rd offset at next f meets fine base low place moves aligned small allowed =
+step-str_after s r bytes cond reg up rn rd offset at next f meets fine base low place moves aligned small allowed =
     single_by_class s r bytes cond reg false up false false false rn rd offset f meets (λ i. fine i || not_r15 rn base i || false || false)
-    ∙ ap (single_step s r bytes false false rd) (access_behind r reg up rn offset at next (first-register r 8 rn base ∙ place) moves)
+    ∙ ap (single_step s r bytes false false rd) (access_after r reg up rn offset at next (first-register r 8 rn base ∙ place) moves)
     ∙ store_done s r bytes false rd rn at (not r.svc) (Some next) (can_word s at rn (not r.svc) (Some next) aligned small allowed)
     ∙ ap (goes (at_next (with_register r rn next))) (stored_word s r bytes rd at low aligned)
 
 -- LDRB Rd,[Rn],offset and STRB Rd,[Rn],offset
-pub step-ldrb_behind : (s : Space) (r : Regs) (bytes : List ℕ) (cond : ℕ) (reg up : Bool) (rn rd offset at next : ℕ)
+pub step-ldrb_after : (s : Space) (r : Regs) (bytes : List ℕ) (cond : ℕ) (reg up : Bool) (rn rd offset at next : ℕ)
     → Fetches s r bytes (Single cond reg false up true false true rn rd offset) → holds cond r ≡ true → is_open_offset reg offset ≡ false → rn < 15 → rd < 15 → (rd == rn) ≡ false
     → register r rn ≡ at → moved up at (offset_of r reg offset) ≡ next → at < 2 ^ 26 → s.allows (not r.svc) at ≡ true
     → cpu_step s r bytes ≡ goes (at_next (with_register (with_register r rn next) rd (byte_at s bytes at))) bytes
-step-ldrb_behind s r bytes cond reg up rn rd offset at next f meets fine base low apart place moves small allowed =
+step-ldrb_after s r bytes cond reg up rn rd offset at next f meets fine base low apart place moves small allowed =
     single_by_class s r bytes cond reg false up true false true rn rd offset f meets (λ i. fine i || not_r15 rn base i || apart i || not_r15 rd low i)
-    ∙ ap (single_step s r bytes true true rd) (access_behind r reg up rn offset at next (first-register r 8 rn base ∙ place) moves)
+    ∙ ap (single_step s r bytes true true rd) (access_after r reg up rn offset at next (first-register r 8 rn base ∙ place) moves)
     ∙ load_done s r bytes true rd rn at (not r.svc) (Some next) (can_byte s at rn (not r.svc) (Some next) small allowed)
     ∙ ap (λ x. goes x bytes) (ap (loaded (with_register r rn next) rd) (read_byte_unit s bytes at) ∙ loaded-register (with_register r rn next) rd (byte_at s bytes at) low)
 
-pub step-strb_behind : (s : Space) (r : Regs) (bytes : List ℕ) (cond : ℕ) (reg up : Bool) (rn rd offset at next : ℕ)
+pub step-strb_after : (s : Space) (r : Regs) (bytes : List ℕ) (cond : ℕ) (reg up : Bool) (rn rd offset at next : ℕ)
     → Fetches s r bytes (Single cond reg false up true false false rn rd offset) → holds cond r ≡ true → is_open_offset reg offset ≡ false → rn < 15 → rd < 15
     → register r rn ≡ at → moved up at (offset_of r reg offset) ≡ next → at < 2 ^ 26 → s.allows (not r.svc) at ≡ true
     → cpu_step s r bytes ≡ goes (at_next (with_register r rn next)) (with_byte s bytes at (register r rd % 2 ^ 8))
-step-strb_behind s r bytes cond reg up rn rd offset at next f meets fine base low place moves small allowed =
+step-strb_after s r bytes cond reg up rn rd offset at next f meets fine base low place moves small allowed =
     single_by_class s r bytes cond reg false up true false false rn rd offset f meets (λ i. fine i || not_r15 rn base i || false || false)
-    ∙ ap (single_step s r bytes false true rd) (access_behind r reg up rn offset at next (first-register r 8 rn base ∙ place) moves)
+    ∙ ap (single_step s r bytes false true rd) (access_after r reg up rn offset at next (first-register r 8 rn base ∙ place) moves)
     ∙ store_done s r bytes true rd rn at (not r.svc) (Some next) (can_byte s at rn (not r.svc) (Some next) small allowed)
     ∙ ap (goes (at_next (with_register r rn next))) (stored_byte s r bytes rd at low)
 
@@ -351,7 +351,7 @@ unfolding class_step is_unpredictable
 block_by_class s r bytes cond pre up psr wb load rn list f meets fine =
     step-by_class s r bytes (Block cond pre up psr wb load rn list) f meets fine
 
--- where a block of so many words begins, by its base's value and the value that is written back
+-- where a block of n words begins, by its base's value and the value that is written back
 abbrev pub block_start : Bool → Bool → ℕ → ℕ → ℕ
 block_start pre up base target = word_address (((if up then base else target) + (if same pre up then 4 else 0)) % 2 ^ 32)
 
@@ -444,7 +444,7 @@ refused-more k s user at low allowed rest = rw (lt-ltb at (2 ^ 26) low, allowed)
 pub refused-range : (k : ℕ) (s : Space) (user : Bool) (at : ℕ) → at + 4 * k ≤ (2 ^ 26) → ((i : ℕ) → i < k → s.allows user (at + 4 * i) ≡ true) → refused_word k s user at ≡ None
 refused-range zero s user at low allowed = refused-none s user at
 refused-range (suc k) s user at low allowed =
-    let behind : next_word at ≡ at + 4 = omega (arith, low) in
+    let above : next_word at ≡ at + 4 = omega (arith, low) in
     refused-more k s user at (omega (arith, low)) (ap (s.allows user) (let e : at ≡ at + 4 * 0 = omega arith in e) ∙ allowed 0 (omega arith))
-    (ap (refused_word k s user) behind
+    (ap (refused_word k s user) above
     ∙ refused-range k s user (at + 4) (omega (arith, low)) (λ i within. ap (s.allows user) (let e : at + 4 + 4 * i ≡ at + 4 * suc i = omega arith in e) ∙ allowed (suc i) (omega (arith, within))))

@@ -5,7 +5,7 @@ use Rattle.arm2_alu.specs.declared.regs.Regs.{Regs}
 use Rattle.arm2_cpu.specs.Outcomes.{Done, ran}
 use Rattle.arm2_alu.specs.Registers.{with_register, r15}
 
--- where a branch leads: so many words from the address plus 8, modulo 2^26
+-- where a branch leads: the distance in words from the address plus 8, modulo 2^26
 abbrev pub branch_target : Regs → ℤ → ℕ
 branch_target r words = (r.pc + 8 + 4 * offset_field words) % 2 ^ 26
 

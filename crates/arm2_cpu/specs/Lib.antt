@@ -1,3 +1,4 @@
+-- The definitions of one instruction: the memory, its outcomes, the classes, and the step.
 pub mod Memory
 pub mod Outcomes
 pub mod Data

@@ -10,7 +10,7 @@ use Rattle.arm2_alu.specs.Registers.{register, with_register, at_next}
 unfoldable pub product : Regs → Bool → ℕ → ℕ → ℕ → ℕ
 product r acc rn rs rm = (register r rm * register r rs + (if acc then register r rn else 0)) % 2 ^ 32
 
--- S sets N and Z
+-- S sets N and Z; that C and V stay is this project's own
 unfoldable pub multiplied : Regs → Bool → ℕ → ℕ → Regs
 multiplied r s rd value =
     at_next (with_register (if s then flagged (record { value = value; carry = carry r; overflow = overflow r }) r else r) rd value)

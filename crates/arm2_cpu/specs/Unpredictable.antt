@@ -1,4 +1,5 @@
--- The instructions whose effect the processor's manual leaves open.
+-- The instructions that trap as unpredictable, whatever the registers hold. Three more depend on a value, which may name a mode
+-- that doesn't exist: they are in Data (tested, set_with_flags) and in Block (load_with_r15). All of this is this project's own.
 use Rattle.std.specs.Prelude.{ℕ, ◌==◌, ◌&&◌, ◌||◌, not, Bool, false}
 use Rattle.arm_isa.specs.Fields.{bits, bit}
 use Rattle.arm_isa.specs.declared.instruction.Instr.{Instr}

@@ -1,3 +1,4 @@
+//! Which addresses a transfer uses, and what its base takes.
 ghost use Rattle.std.specs.Prelude.{◌≡◌, ◌<◌, ◌%◌, ◌^◌};
 ghost use Rattle.arm2_cpu.specs.Access.{moved, with_base, writes_back, offset_of, single_access, block_access};
 
@@ -79,7 +80,7 @@ pub(crate) fn single_access(
 }
 
 #[tactic(auto, unfolding(crate::specs::Access::block_access))]
-/// The access of LDM and STM of so many words.
+/// The access of LDM and STM of `count` words.
 pub(crate) fn block_access(regs: &Regs, pre: bool, up: bool, wb: bool, rn: u8, count: u32) -> Access
     requires { count < 17 }
     ensures value { result ≡ block_access regs.now pre up wb rn count }

@@ -1,3 +1,4 @@
+//! LDM and STM.
 ghost use Rattle.std.specs.Prelude.{◌≡◌, ◌≤◌, ◌<◌, ◌%◌, ◌^◌, true, None, length};
 ghost use Rattle.arm2_cpu.specs.Access.{can_use};
 ghost use Rattle.arm2_cpu.specs.Block.{registers_among, registers_in, low_registers_in, next_word, refused_word, stored_value, with_block, with_words, store_block, last_word, with_low_words, load_with_r15, load_block, block_step};
@@ -21,7 +22,7 @@ fn is_listed(list: u16, n: u8) -> bool
 }
 
 #[tactic(auto, using(crate::proofs::BlockLaws::count_laws))]
-/// How many registers a list has.
+/// The number of registers in a list.
 pub(crate) fn count_of(list: u16) -> u32
     ensures value { result ≡ length (registers_in list) }
     ensures few { result < 17 }
@@ -30,7 +31,7 @@ pub(crate) fn count_of(list: u16) -> u32
 }
 
 #[tactic(auto, using(crate::proofs::BlockLaws::count_laws))]
-/// How many registers below R15 a list has.
+/// The number of registers below R15 in a list.
 fn count_low(list: u16) -> u32
     ensures value { result ≡ length (low_registers_in list) }
     ensures few { result < 16 }
@@ -46,7 +47,7 @@ fn can_use<M: Memory>(mem: &M, user: bool, at: u32) -> bool
     at < PC_END && mem.word(user, at).is_some()
 }
 
-/// The address of the first refused word, among so many from an address up.
+/// The address of the first refused word, among `count` words from an address up.
 fn first_refused<M: Memory>(mem: &M, user: bool, start: u32, count: u32) -> Option<u32>
     requires { start % 4 ≡ 0 }
     ensures { result ≡ refused_word count M.space user start }
@@ -223,7 +224,7 @@ fn load_block<M: Memory>(
 }
 
 #[tactic(auto, unfolding(crate::specs::Block::block_step))]
-/// Carries out LDM where `load`, else STM.
+/// Executes LDM where `load`, else STM.
 pub(crate) fn transfer_block<M: Memory>(
     regs: &mut Regs,
     mem: &mut M,

@@ -1,3 +1,4 @@
+//! B and BL.
 ghost use Rattle.std.specs.Prelude.{◌≡◌};
 ghost use Rattle.arm_isa.specs.Words.{FitsOffset};
 ghost use Rattle.arm2_cpu.specs.Branch.{branch_target, branch_step};
@@ -7,7 +8,7 @@ use arm_isa::numbers::R14;
 use arm2_alu::{Pc, Regs};
 
 #[tactic(auto, using(crate::proofs::BranchLaws::target_laws))]
-/// The address so many words from the instruction's address plus 8.
+/// The address `words` words from the instruction's address plus 8.
 fn target(regs: &Regs, words: i32) -> Pc
     requires { FitsOffset words }
     ensures { result ≡ branch_target regs.now words }
@@ -17,7 +18,7 @@ fn target(regs: &Regs, words: i32) -> Pc
 }
 
 #[tactic(auto, unfolding(crate::specs::Branch::branch_step))]
-/// Carries out B, or BL where `link`.
+/// Executes B, or BL where `link`.
 pub(crate) fn branch(regs: &mut Regs, link: bool, words: i32) -> CpuEvent
     requires { FitsOffset words }
     ensures { branch_step regs.old link words ≡ record { event = result; regs = regs.new } }

@@ -1,3 +1,4 @@
+//! MUL and MLA.
 ghost use Rattle.std.specs.Prelude.{◌≡◌};
 ghost use Rattle.arm2_cpu.specs.Multiply.{product, multiplied, multiply_step};
 
@@ -30,7 +31,7 @@ fn set_product(regs: &mut Regs, s: bool, rd: u8, value: u32)
 }
 
 #[tactic(auto, unfolding(crate::specs::Multiply::multiply_step))]
-/// Carries out MUL, or MLA where `acc`.
+/// Executes MUL, or MLA where `acc`.
 pub(crate) fn multiply(
     regs: &mut Regs,
     acc: bool,

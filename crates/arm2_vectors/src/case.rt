@@ -1,3 +1,4 @@
+//! A step as a line tells it.
 use crate::fields::{Fields, decimal, hexadecimal};
 use crate::words::{Words, words_of};
 use arm2_cpu::{CpuEvent, Pc, Psr, Regs};
@@ -19,7 +20,7 @@ pub struct Case {
     pub words: Words,
     /// What the step comes to.
     pub event: CpuEvent,
-    /// The registers behind the step.
+    /// The registers after the step.
     pub after: Regs,
     /// Words of memory that the step writes.
     pub written: Words,

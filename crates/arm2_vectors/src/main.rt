@@ -50,7 +50,7 @@ fn names(words: &[Word], address: u32) -> bool {
     words.iter().any(|word| word.address == address)
 }
 
-/// Whether a word is one of those that were written, and stands in the memory.
+/// Whether a word is one of those that were written, and is in the memory.
 fn stands<P: Place>(ram: &StepRam<P>, written: &[u32], word: &Word) -> bool {
     written.contains(&word.address) && ram.load(word.address) == Some(word.value)
 }

@@ -1,4 +1,4 @@
--- Register operands: the field of a register that is shifted, and what stands in it.
+-- Register operands: the field of a register that is shifted, and what it holds.
 use Rattle.std.proofs.Common.{◌≡◌, ℕ, ◌+◌, ◌*◌, ◌^◌, ◌<◌, true, false, ◌==◌, arith, eqb-true}
 use Rattle.std.proofs.lemmas.Bool.{eqb-false}
 use Rattle.arm_isa.specs.Fields.{bits, bit}

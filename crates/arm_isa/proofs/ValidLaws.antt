@@ -42,7 +42,7 @@ valid-data_register cond op rn rd op2 s c o n d p plain =
       own_class = class-group_0 w (no_multiply w same) (omega (arith, c, o, n, d, p, flag)) ∙ rw same refl;
     }
 
--- data processing with a register, behind the bits of a shift by a number: bit 4 is clear
+-- data processing with a register, after the bits of a shift by a number: bit 4 is clear
 pub valid-data_by_number : (cond op rn rd shift rm : ℕ) (s : Bool) → cond < 2 ^ 4 → op < 2 ^ 4 → rn < 2 ^ 4 → rd < 2 ^ 4 → shift % 2 ^ 5 ≡ 0 → shift < 2 ^ 12 → rm < 2 ^ 4 → IsValid (Data cond false op s rn rd (shift + rm))
 valid-data_by_number cond op rn rd shift rm s c o n d k h m =
     let op2 : ℕ = shift + rm in
@@ -54,7 +54,7 @@ valid-data_by_number cond op rn rd shift rm s c o n d k h m =
     and_false true = refl
     and_false false = refl
 
--- data processing with a register, behind the bits of a shift by a register: bit 7 is clear
+-- data processing with a register, after the bits of a shift by a register: bit 7 is clear
 pub valid-data_by_register : (cond op rn rd shift rm : ℕ) (s : Bool) → cond < 2 ^ 4 → op < 2 ^ 4 → rn < 2 ^ 4 → rd < 2 ^ 4 → shift % 2 ^ 4 ≡ 0 → shift % 2 ^ 8 < 2 ^ 7 → shift < 2 ^ 12 → rm < 2 ^ 4 → IsValid (Data cond false op s rn rd (shift + rm))
 valid-data_by_register cond op rn rd shift rm s c o n d k b h m =
     let op2 : ℕ = shift + rm in
@@ -115,7 +115,7 @@ valid-single_register cond rn rd offset pre up byte wb load c n d o plain =
     let same : bit w 4 ≡ false = ap (λ k. k == 1) four ∙ plain in
     record { fits = (c, n, d, o); own_class = class-group_3 w (omega (arith, c, n, d, o, b2, b3, b4, b5, b6)) ∙ rw same refl }
 
--- a transfer with a register for its offset, behind the bits of a shift by a number
+-- a transfer with a register for its offset, after the bits of a shift by a number
 pub valid-single_by_number : (cond rn rd shift rm : ℕ) (pre up byte wb load : Bool) → cond < 2 ^ 4 → rn < 2 ^ 4 → rd < 2 ^ 4 → shift % 2 ^ 5 ≡ 0 → shift < 2 ^ 12 → rm < 2 ^ 4 → IsValid (Single cond true pre up byte wb load rn rd (shift + rm))
 valid-single_by_number cond rn rd shift rm pre up byte wb load c n d k h m =
     let offset : ℕ = shift + rm in

@@ -1,3 +1,4 @@
+//! Words from instructions. A new class has its writer here, and its arm in `sum_of_fields`.
 ghost use Rattle.std.specs.Prelude.{◌≡◌, ℕ, ◌<◌, ◌≤◌, ◌*◌, ◌+◌, ◌%◌, ◌^◌};
 ghost use Rattle.std.specs.Int.{from_bool};
 ghost use Rattle.arm_isa.specs.declared.instruction.Instr.TheVariants.{Data, Mul, Branch, Swi};
