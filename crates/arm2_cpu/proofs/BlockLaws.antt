@@ -3,11 +3,11 @@ use Rattle.std.proofs.Common.{◌≡◌, ℕ, zero, suc, ◌+◌, ◌*◌, ◌/�
 use Rattle.std.proofs.lemmas.Bool.{eqb-false}
 use Rattle.std.specs.Int.RustNames.{count_ones}
 use Rattle.std.proofs.lemmas.Nat.{mod-pow-add, ones_cat, ones-le, shr-shr}
-use Rattle.arm2_cpu.specs.declared.regs.Regs.{Regs}
+use Rattle.arm2_alu.specs.declared.regs.Regs.{Regs}
 use Rattle.arm2_cpu.specs.Access.{can_use}
 use Rattle.arm_isa.specs.Fields.{bit}
-use Rattle.arm2_cpu.specs.Memory.{Space, word_at, with_word}
-use Rattle.arm2_cpu.specs.Registers.{with_banked}
+use Rattle.arm2_cpu.specs.Memory.{Space, word_in, with_word}
+use Rattle.arm2_alu.specs.Registers.{with_banked}
 use Rattle.arm2_cpu.specs.Block.{registers_among, registers_in, low_registers_in, next_word, refused_word, with_block, with_words, stored_value}
 
 -- one register more, or none
@@ -31,7 +31,7 @@ none_more : (n : ℕ) → n + count_ones 0 ≡ n
 unfolding count_ones
 none_more n = omega arith
 
--- the registers among so many are as many as those bits that are 1
+-- the number of a list's registers is that of its bits that are 1
 pub count_among : (k n list : ℕ) → length (registers_among k n list) ≡ count_ones (list / 2 ^ n % 2 ^ k)
 unfolding registers_among
 count_among zero n list = sym (ap count_ones (let e : list / 2 ^ n % 2 ^ 0 ≡ 0 = omega arith in e) ∙ no_ones)
@@ -75,7 +75,7 @@ fewer_ones n = let e = ones-le 15 (n % 32768) (omega arith) in omega (arith, e)
 
 pub ruleset count_laws = (count_is, count_low_is, few_ones, fewer_ones)
 
--- the words behind the first
+-- the words after the first
 pub refused_next : (j k : ℕ) (s : Space) (user : Bool) (at : ℕ) → can_use s user at ≡ true → j ≡ suc k → refused_word j s user at ≡ refused_word k s user (next_word at)
 unfolding refused_word
 refused_next j k s user at allowed is = rw (is, allowed) refl
@@ -121,7 +121,7 @@ unfolding with_block registers_among
 block_ends j n list s bytes r svc at is = rw is refl
 
 -- what is left to load
-pub words_take : (j k n list : ℕ) (s : Space) (bytes : List ℕ) (r : Regs) (svc : Bool) (at : ℕ) → bit list n ≡ true → j ≡ suc k → with_words (registers_among j n list) s bytes r svc at ≡ with_words (registers_among k (n + 1) list) s bytes (with_banked svc r n (word_at s bytes at)) svc (next_word at)
+pub words_take : (j k n list : ℕ) (s : Space) (bytes : List ℕ) (r : Regs) (svc : Bool) (at : ℕ) → bit list n ≡ true → j ≡ suc k → with_words (registers_among j n list) s bytes r svc at ≡ with_words (registers_among k (n + 1) list) s bytes (with_banked svc r n (word_in s bytes at)) svc (next_word at)
 unfolding with_words
 words_take j k n list s bytes r svc at set is = ap (λ ns. with_words ns s bytes r svc at) (among_takes j k n list set is)
 
@@ -142,7 +142,7 @@ allowed_at (suc k) (suc i) s user at word none below =
     let later : (at + 4 * suc i) % 2 ^ 32 ≡ (next_word at + 4 * i) % 2 ^ 32 = omega arith in
     ap (can_use s user) later ∙ allowed_at k i s user (next_word at) (omega arith) rest (omega (arith, below))
 
--- the last of so many registers, where a list has it
+-- the last of the registers, where a list has it
 pub among_last : (k n list : ℕ) → bit list (n + k) ≡ true → length (registers_among (suc k) n list) ≡ suc (length (registers_among k n list))
 unfolding registers_among
 among_last zero n list set =

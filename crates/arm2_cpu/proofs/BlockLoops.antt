@@ -1,11 +1,11 @@
 -- What the loops over the registers of a block keep.
 use Rattle.std.proofs.Common.{◌≡◌, ℕ, suc, ◌+◌, ◌-◌, ◌%◌, ◌<◌, ◌≤◌, Bool, true, false, List, length, Some, None, sym, ap, ◌∙◌, arith}
-use Rattle.arm2_cpu.specs.declared.regs.Regs.{Regs}
+use Rattle.arm2_alu.specs.declared.regs.Regs.{Regs}
 use Rattle.arm2_cpu.specs.Access.{can_use}
 use Rattle.arm2_cpu.specs.Block.{registers_among, registers_in, low_registers_in, next_word, refused_word, stored_value, with_block, with_words}
 use Rattle.arm_isa.specs.Fields.{bit}
-use Rattle.arm2_cpu.specs.Memory.{Space, word_at, with_word}
-use Rattle.arm2_cpu.specs.Registers.{IsValidRegs, with_banked}
+use Rattle.arm2_cpu.specs.Memory.{Space, word_in, with_word}
+use Rattle.arm2_alu.specs.Registers.{with_banked}
 use Rattle.arm2_cpu.proofs.BlockLaws.{register_allowed, rest_allowed, skipped_allowed, block_takes, block_skips, block_ends, words_take, words_skip, words_end, refused_next, refused_here, refused_none}
 
 -- the registers from n on are still to be stored
@@ -19,7 +19,6 @@ pub record Loading (s : Space) (list : ℕ) (user : Bool) (n at : ℕ) (bytes : 
   pub aligned : at % 4 ≡ 0
   pub allowed : refused_word (length (registers_among (16 - n) n list)) s user at ≡ None
   pub rest : with_words (registers_among (15 - n) n list) s bytes r svc at ≡ with_words (low_registers_in list) s bytes first svc start
-  pub valid : IsValidRegs r
 
 -- a register that isn't listed
 pub storing_skips : (s : Space) (list : ℕ) (user : Bool) (n at : ℕ) (bytes first : List ℕ) (r : Regs) (svc : Bool) (start : ℕ) → Storing s list user n at bytes first r svc start → n < 16 → bit list n ≡ false → Storing s list user (n + 1) at bytes first r svc start
@@ -57,11 +56,10 @@ loading_skips s list user n at bytes r first svc start h below clear =
       aligned = h.aligned;
       allowed = skipped_allowed _ (16 - (n + 1)) n list s user at h.allowed clear (omega (arith, below));
       rest = sym (words_skip _ (15 - (n + 1)) n list s bytes r svc at clear (omega (arith, below))) ∙ h.rest;
-      valid = h.valid;
     }
 
-pub loading_takes : (s : Space) (list : ℕ) (user : Bool) (n at : ℕ) (bytes : List ℕ) (r first : Regs) (svc : Bool) (start value : ℕ) (after : Regs) → Loading s list user n at bytes r first svc start → n < 15 → bit list n ≡ true → value ≡ word_at s bytes at → after ≡ with_banked svc r n value → IsValidRegs after → Loading s list user (n + 1) (next_word at) bytes after first svc start
-loading_takes s list user n at bytes r first svc start value after h below set is loaded valid =
+pub loading_takes : (s : Space) (list : ℕ) (user : Bool) (n at : ℕ) (bytes : List ℕ) (r first : Regs) (svc : Bool) (start value : ℕ) (after : Regs) → Loading s list user n at bytes r first svc start → n < 15 → bit list n ≡ true → value ≡ word_in s bytes at → after ≡ with_banked svc r n value → Loading s list user (n + 1) (next_word at) bytes after first svc start
+loading_takes s list user n at bytes r first svc start value after h below set is loaded =
     let aligned = h.aligned in
     record {
       aligned = omega (arith, aligned);
@@ -69,7 +67,6 @@ loading_takes s list user n at bytes r first svc start value after h below set i
       rest =
           ap (λ x. with_words (registers_among (15 - (n + 1)) (n + 1) list) s bytes x svc (next_word at)) (loaded ∙ ap (with_banked svc r n) is)
           ∙ sym (words_take _ (15 - (n + 1)) n list s bytes r svc at set (omega (arith, below))) ∙ h.rest;
-      valid = valid;
     }
 
 pub loading_may : (s : Space) (list : ℕ) (user : Bool) (n at : ℕ) (bytes : List ℕ) (r first : Regs) (svc : Bool) (start : ℕ) → Loading s list user n at bytes r first svc start → n < 15 → bit list n ≡ true → can_use s user at ≡ true

@@ -1,9 +1,10 @@
 -- A memory as a function from addresses to bytes.
 use Rattle.std.proofs.Common.{◌≡◌, ◌≢◌, ℕ, ◌+◌, ◌*◌, ◌/◌, ◌%◌, ◌^◌, ◌<◌, ◌≤◌, ◌⊎◌, ◌==◌, nat_le, Bool, true, false, if◌then◌else◌, List, [], ◌∷◌, length, slice_index, inl, inr, refl, sym, ◌∙◌, arith, eqb-true, leb-true, leb-false, le-leb}
 use Rattle.std.proofs.lemmas.Bool.{eqb-false}
-use Rattle.arm2_cpu.specs.Memory.{Space, byte_at, word_at, word_bytes, with_bytes, with_byte, with_word}
-use Rattle.arm2_cpu.proofs.MemoryLaws.{byte_kept, byte_written}
-use Rattle.arm2_cpu.proofs.RegisterLaws.{updated}
+use Rattle.bv_base.specs.Words.{word_bytes}
+use Rattle.arm2_cpu.specs.Memory.{Space, byte_at, word_in, with_bytes, with_byte, with_word}
+use Rattle.arm2_cpu.proofs.MemoryLaws.{byte_kept, byte_written, word-by_bytes}
+use Rattle.arm2_alu.proofs.RegisterLaws.{updated}
 
 -- the byte at each address, and 0 below the memory
 abbrev pub bytes_of : Space → List ℕ → ℕ → ℕ
@@ -11,10 +12,10 @@ bytes_of s bytes a = if nat_le s.base a then byte_at s bytes a else 0
 
 -- the word at an address by the function
 pub word-by_bytes_of : (s : Space) (bytes : List ℕ) (at : ℕ) → s.base ≤ at
-    → word_at s bytes at ≡ bytes_of s bytes at + bytes_of s bytes (at + 1) * 2 ^ 8 + bytes_of s bytes (at + 2) * 2 ^ 16 + bytes_of s bytes (at + 3) * 2 ^ 24
-unfolding word_at
+    → word_in s bytes at ≡ bytes_of s bytes at + bytes_of s bytes (at + 1) * 2 ^ 8 + bytes_of s bytes (at + 2) * 2 ^ 16 + bytes_of s bytes (at + 3) * 2 ^ 24
 word-by_bytes_of s bytes at low =
-    rw (le-leb s.base at low, le-leb s.base (at + 1) (omega (arith, low)), le-leb s.base (at + 2) (omega (arith, low)), le-leb s.base (at + 3) (omega (arith, low))) refl
+    rw (le-leb s.base at low, le-leb s.base (at + 1) (omega (arith, low)), le-leb s.base (at + 2) (omega (arith, low)), le-leb s.base (at + 3) (omega (arith, low)))
+    (word-by_bytes s bytes at low)
 
 below_memory : (s : Space) (bytes : List ℕ) (a : ℕ) → nat_le s.base a ≡ false → bytes_of s bytes a ≡ 0
 below_memory s bytes a e = rw e refl

@@ -11,11 +11,11 @@ use Rattle.arm_isa.specs.Table.{class_of}
 use Rattle.arm_isa.specs.Words.{means, read_as, word_of, IsValid}
 use Rattle.arm_isa.proofs.RoundTrip.{means-word_of}
 use Rattle.arm2_cpu.specs.declared.event.CpuEvent.TheVariants as events
-use Rattle.arm2_cpu.specs.declared.regs.Regs.{Regs}
-use Rattle.arm2_cpu.specs.Conditions.{holds}
+use Rattle.arm2_alu.specs.declared.regs.Regs.{Regs}
+use Rattle.arm2_alu.specs.Conditions.{holds}
 use Rattle.arm2_cpu.specs.Memory.{Space, read_word}
 use Rattle.arm2_cpu.specs.Outcomes.{Stepped, with_memory, ran, trapped}
-use Rattle.arm2_cpu.specs.Registers.{at_next}
+use Rattle.arm2_alu.specs.Registers.{at_next}
 use Rattle.arm2_cpu.specs.Step.{class_step, instruction_step, word_step, fetched_step, cpu_step}
 use Rattle.arm2_cpu.specs.Unpredictable.{is_unpredictable}
 
@@ -82,12 +82,12 @@ when_listed : (s : Space) (r : Regs) (bytes : List ℕ) (i : Instr) → is_unpre
 unfolding instruction_step
 when_listed s r bytes i listed = cond-true (is_unpredictable i) _ _ listed
 
--- a condition that holds, of an instruction that isn't left open
+-- a condition that holds, of an instruction that isn't unpredictable
 pub step-by_class : (s : Space) (r : Regs) (bytes : List ℕ) (i : Instr) → Fetches s r bytes i → holds (condition_of i) r ≡ true → is_unpredictable i ≡ false → cpu_step s r bytes ≡ class_step s r bytes i
 step-by_class s r bytes i f meets open_not =
     by_word s r bytes i f ∙ by_condition s r bytes i f ∙ cond-true (holds (condition_of i) r) _ _ meets ∙ unlisted s r bytes i open_not
 
--- an instruction that is left open traps
+-- an unpredictable instruction traps
 pub step-unpredictable : (s : Space) (r : Regs) (bytes : List ℕ) (i : Instr) → Fetches s r bytes i → holds (condition_of i) r ≡ true → is_unpredictable i ≡ true → cpu_step s r bytes ≡ with_memory bytes (trapped traps.Unpredictable r)
 step-unpredictable s r bytes i f meets listed =
     by_word s r bytes i f ∙ by_condition s r bytes i f ∙ cond-true (holds (condition_of i) r) _ _ meets ∙ when_listed s r bytes i listed

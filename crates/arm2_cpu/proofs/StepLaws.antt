@@ -6,23 +6,23 @@ use Rattle.arm_isa.specs.Fields.{bits}
 use Rattle.arm_isa.specs.Immediates.{immediate_value}
 use Rattle.arm_isa.proofs.ImmediateLaws.{immediate_value-lt}
 use Rattle.arm2_cpu.specs.declared.event.CpuEvent.TheVariants as events
-use Rattle.arm2_cpu.specs.declared.operations.Computed.{Computed}
-use Rattle.arm2_cpu.specs.declared.operations.TheConstants.{SUB, ADD, CMP, MOV}
-use Rattle.arm2_cpu.specs.declared.regs.Regs.{Regs}
-use Rattle.arm2_cpu.specs.declared.regs.TheConstants.{R15}
-use Rattle.arm2_cpu.specs.declared.shifts.Shifted.{Shifted}
+use Rattle.arm2_alu.specs.declared.operations.Computed.{Computed}
+use Rattle.arm_isa.specs.Numbers.{SUB, ADD, CMP, MOV, R15}
+use Rattle.arm2_alu.specs.declared.regs.Regs.{Regs}
+use Rattle.arm2_alu.specs.declared.shifts.Shifted.{Shifted}
 use Rattle.arm2_cpu.specs.Branch.{branch_step, branch_target}
-use Rattle.arm2_cpu.specs.Conditions.{carry, overflow, holds}
-use Rattle.arm2_cpu.specs.Data.{flagged, loaded, tested, set_with_flags, concluded, data_step}
+use Rattle.arm2_alu.specs.Conditions.{carry, overflow, holds}
+use Rattle.arm2_alu.specs.Results.{flagged, loaded}
+use Rattle.arm2_cpu.specs.Data.{tested, set_with_flags, concluded, data_step}
 use Rattle.arm2_cpu.specs.Memory.{Space}
-use Rattle.arm2_cpu.specs.Operands.{by_register, ahead_of, first_operand, second_operand}
-use Rattle.arm2_cpu.specs.Operations.{is_test, logical, computed}
+use Rattle.arm2_alu.specs.Operands.{by_register, ahead_of, first_operand, second_operand}
+use Rattle.arm2_alu.specs.Operations.{is_test, logical, computed}
 use Rattle.arm2_cpu.specs.Outcomes.{with_memory, ran}
-use Rattle.arm2_cpu.specs.Registers.{register, with_register, r15, at_next, jumped}
+use Rattle.arm2_alu.specs.Registers.{register, with_register, r15, at_next, jumped}
 use Rattle.arm2_cpu.specs.Step.{class_step, cpu_step}
-use Rattle.arm2_cpu.specs.Unpredictable.{is_open_data, is_unpredictable}
+use Rattle.arm2_cpu.specs.Unpredictable.{is_unpredictable_data, is_unpredictable}
 use Rattle.arm2_cpu.proofs.StepBasics.{Fetches, goes, step-skipped, step-by_class}
-use Rattle.arm2_cpu.proofs.ValueLaws.{not_r15, minus, value_of, compared, summed, value-computed, computed-cmp, computed-sub, computed-add, first-register, second-immediate, plain_is_amount, second-plain}
+use Rattle.arm2_alu.proofs.ValueLaws.{not_r15, minus, value_of, compared, summed, value-computed, computed-cmp, computed-sub, computed-add, first-register, second-immediate, plain_is_amount, second-plain}
 
 -- a register takes a value
 pub loaded-register : (r : Regs) (rd value : ℕ) → rd < 15 → loaded r rd value ≡ at_next (with_register r rd value)
@@ -31,9 +31,9 @@ loaded-register r rd value low = rw (not_r15 rd low) refl
 
 -- ---- data processing
 
--- data processing that is carried out
+-- data processing that is executed
 data_by_class : (s : Space) (r : Regs) (bytes : List ℕ) (cond : ℕ) (imm : Bool) (op : ℕ) (flags : Bool) (rn rd op2 : ℕ)
-    → Fetches s r bytes (Data cond imm op flags rn rd op2) → holds cond r ≡ true → is_open_data imm op flags op2 ≡ false
+    → Fetches s r bytes (Data cond imm op flags rn rd op2) → holds cond r ≡ true → is_unpredictable_data imm op flags op2 ≡ false
     → cpu_step s r bytes ≡ with_memory bytes (data_step r imm op flags rn rd op2)
 unfolding class_step is_unpredictable
 data_by_class s r bytes cond imm op flags rn rd op2 f meets fine = step-by_class s r bytes (Data cond imm op flags rn rd op2) f meets fine
@@ -42,7 +42,7 @@ data_by_class s r bytes cond imm op flags rn rd op2 f meets fine = step-by_class
 abbrev pub outcome : Regs → Bool → ℕ → ℕ → ℕ → Computed
 outcome r imm op rn op2 = computed op (first_operand r (ahead_of imm op2) rn) (second_operand r imm op2) (carry r) (overflow r)
 
-not_open : (imm : Bool) (op : ℕ) (flags : Bool) (op2 : ℕ) → (is_test op && not flags) ≡ false → by_register imm op2 ≡ false → is_open_data imm op flags op2 ≡ false
+not_open : (imm : Bool) (op : ℕ) (flags : Bool) (op2 : ℕ) → (is_test op && not flags) ≡ false → by_register imm op2 ≡ false → is_unpredictable_data imm op flags op2 ≡ false
 not_open imm op flags op2 no_test no_register = (λ i. no_test i || (no_register i && (bits op2 11 8 == R15)))
 
 -- without S
@@ -114,7 +114,7 @@ step-mov_register s r bytes cond rn rd rm f meets low other =
     step-mov s r bytes cond false rn rd rm (register r rm) f meets (plain_is_amount rm other) low (ap (λ (x : Shifted). x.value) (second-plain r rm other))
 
 -- a shift whose amount is in a register below R15
-not_open_by_register : (op : ℕ) (flags : Bool) (op2 : ℕ) → (is_test op && not flags) ≡ false → (bits op2 11 8 == R15) ≡ false → is_open_data false op flags op2 ≡ false
+not_open_by_register : (op : ℕ) (flags : Bool) (op2 : ℕ) → (is_test op && not flags) ≡ false → (bits op2 11 8 == R15) ≡ false → is_unpredictable_data false op flags op2 ≡ false
 not_open_by_register op flags op2 no_test amount = (λ i. no_test i || (by_register false op2 && amount i)) ∙ and-false (by_register false op2)
 
 -- data processing whose shift has its amount in a register, from a register

@@ -5,29 +5,29 @@ use Rattle.std.proofs.lemmas.Bool.{ne_eqb}
 use Rattle.arm_isa.specs.declared.instruction.Instr.TheVariants.{Mul, Single, Block}
 use Rattle.arm_isa.specs.Fields.{bits, bit}
 use Rattle.arm_isa.specs.Immediates.{rotated}
-use Rattle.arm2_cpu.specs.declared.operations.Computed.{Computed}
-use Rattle.arm2_cpu.specs.declared.regs.Regs.{Regs}
-use Rattle.arm2_cpu.specs.declared.regs.TheConstants.{PC_END, R15}
-use Rattle.arm2_cpu.specs.declared.shifts.Shifted.{Shifted}
+use Rattle.arm2_alu.specs.declared.operations.Computed.{Computed}
+use Rattle.arm2_alu.specs.declared.regs.Regs.{Regs}
+use Rattle.arm_isa.specs.Numbers.{R15}
+use Rattle.arm2_alu.specs.declared.shifts.Shifted.{Shifted}
 use Rattle.arm2_cpu.specs.Access.{moved, offset_of, single_access, block_access, with_base_taking, can_use}
 use Rattle.arm2_cpu.specs.Block.{registers_in, low_registers_in, next_word, refused_word, stored_value, with_block, with_words, store_block, load_block, load_with_r15, block_step}
-use Rattle.arm2_cpu.specs.Conditions.{same, carry, overflow, holds}
-use Rattle.arm2_cpu.specs.Data.{flagged, loaded}
-use Rattle.arm2_cpu.specs.Memory.{Space, word_at, byte_at, with_word, with_byte, word_address}
+use Rattle.arm2_alu.specs.Conditions.{same, carry, overflow, holds}
+use Rattle.arm2_alu.specs.Results.{flagged, loaded}
+use Rattle.arm2_cpu.specs.Memory.{Space, word_in, byte_at, with_word, with_byte, word_address}
 use Rattle.arm2_cpu.specs.Multiply.{product, multiplied, multiply_step}
-use Rattle.arm2_cpu.specs.Operands.{first_operand, whole_operand, amount_operand}
-use Rattle.arm2_cpu.specs.Registers.{register, with_banked, with_register, at_next, jumped}
-use Rattle.arm2_cpu.specs.Shifts.{shifted_by_field}
+use Rattle.arm2_alu.specs.Operands.{first_operand, whole_operand, amount_operand}
+use Rattle.arm2_alu.specs.Registers.{register, with_banked, with_register, at_next, jumped}
+use Rattle.arm2_alu.specs.Shifts.{shifted_by_field}
 use Rattle.arm2_cpu.specs.Single.{read_unit, with_unit, can_transfer, load_single, store_single, single_step}
 use Rattle.arm2_cpu.specs.Step.{class_step, cpu_step}
-use Rattle.arm2_cpu.specs.Unpredictable.{is_open_multiply, is_open_single, is_open_block, is_unpredictable}
+use Rattle.arm2_cpu.specs.Unpredictable.{is_unpredictable_multiply, is_unpredictable_single, is_unpredictable_block, is_unpredictable}
 use Rattle.arm2_cpu.proofs.StepBasics.{Fetches, goes, step-by_class}
 use Rattle.arm2_cpu.proofs.StepLaws.{loaded-register}
-use Rattle.arm2_cpu.proofs.ValueLaws.{not_r15, first-register, whole-register, amount-shifted, amount-plain, amount-lsl}
+use Rattle.arm2_alu.proofs.ValueLaws.{not_r15, first-register, whole-register, amount-shifted, amount-plain, amount-lsl}
 
 -- ---- multiplication
 
-multiply_fine : (rd rn rs rm : ℕ) → rd < 15 → rn < 15 → rs < 15 → rm < 15 → (rd == rm) ≡ false → is_open_multiply rd rn rs rm ≡ false
+multiply_fine : (rd rn rs rm : ℕ) → rd < 15 → rn < 15 → rs < 15 → rm < 15 → (rd == rm) ≡ false → is_unpredictable_multiply rd rn rs rm ≡ false
 multiply_fine rd rn rs rm d n s m apart = (λ i. apart i || not_r15 rd d i || not_r15 rn n i || not_r15 rs s i || not_r15 rm m i)
 
 -- MUL or MLA
@@ -77,7 +77,7 @@ step-mlas s r bytes cond rd rn rs rm f meets d n t m apart = multiply_by_class s
 -- ---- LDR and STR
 
 single_by_class : (s : Space) (r : Regs) (bytes : List ℕ) (cond : ℕ) (reg pre up byte wb load : Bool) (rn rd offset : ℕ)
-    → Fetches s r bytes (Single cond reg pre up byte wb load rn rd offset) → holds cond r ≡ true → is_open_single reg pre byte wb load rn rd offset ≡ false
+    → Fetches s r bytes (Single cond reg pre up byte wb load rn rd offset) → holds cond r ≡ true → is_unpredictable_single reg pre byte wb load rn rd offset ≡ false
     → cpu_step s r bytes ≡ single_step s r bytes load byte rd (single_access r reg pre up wb rn offset)
 unfolding class_step is_unpredictable
 single_by_class s r bytes cond reg pre up byte wb load rn rd offset f meets fine =
@@ -95,33 +95,33 @@ access_written : (r : Regs) (reg up : Bool) (rn offset at : ℕ) → moved up (f
 unfolding single_access
 access_written r reg up rn offset at is = (λ i. record { user = or-false (not r.svc) i; address = is i; base = rn; written_back = Some (is i) })
 
--- the base is moved behind the access
-access_behind : (r : Regs) (reg up : Bool) (rn offset at next : ℕ) → first_operand r 8 rn ≡ at → moved up at (offset_of r reg offset) ≡ next
+-- the base is moved after the access
+access_after : (r : Regs) (reg up : Bool) (rn offset at next : ℕ) → first_operand r 8 rn ≡ at → moved up at (offset_of r reg offset) ≡ next
     → single_access r reg false up false rn offset ≡ record { user = not r.svc; address = at; base = rn; written_back = Some next }
 unfolding single_access
-access_behind r reg up rn offset at next is moves =
+access_after r reg up rn offset at next is moves =
     (λ i. record { user = or-false (not r.svc) i; address = is i; base = rn; written_back = Some (moved up (is i) (offset_of r reg offset)) })
     ∙ (λ i. record { user = not r.svc; address = at; base = rn; written_back = Some (moves i) })
 
 -- what is read and stored
-whole_word : (s : Space) (bytes : List ℕ) (at : ℕ) → at % 4 ≡ 0 → read_unit s bytes false at ≡ word_at s bytes at
+whole_word : (s : Space) (bytes : List ℕ) (at : ℕ) → at % 4 ≡ 0 → read_unit s bytes false at ≡ word_in s bytes at
 unfolding read_unit
 whole_word s bytes at aligned =
     let same : word_address at ≡ at = omega (arith, aligned) in
-    (λ i. rotated (word_at s bytes (same i)) (8 * aligned i)) ∙ unturned (word_at s bytes at)
+    (λ i. rotated (word_in s bytes (same i)) (8 * aligned i)) ∙ unturned (word_in s bytes at)
   where
     unturned : (w : ℕ) → rotated w (8 * 0) ≡ w
     unturned w = omega arith
 
-can_word : (s : Space) (at rn : ℕ) (user : Bool) (back : Option ℕ) → at % 4 ≡ 0 → at < PC_END → s.allows user at ≡ true → can_transfer s false (record { user = user; address = at; base = rn; written_back = back }) ≡ true
+can_word : (s : Space) (at rn : ℕ) (user : Bool) (back : Option ℕ) → at % 4 ≡ 0 → at < 2 ^ 26 → s.allows user at ≡ true → can_transfer s false (record { user = user; address = at; base = rn; written_back = back }) ≡ true
 unfolding can_transfer
 can_word s at rn user back aligned low allowed =
     let same : word_address at ≡ at = omega (arith, aligned) in
-    ap (can_use s user) same ∙ (λ i. lt-ltb at PC_END low i && allowed i)
+    ap (can_use s user) same ∙ (λ i. lt-ltb at (2 ^ 26) low i && allowed i)
 
-can_byte : (s : Space) (at rn : ℕ) (user : Bool) (back : Option ℕ) → at < PC_END → s.allows user at ≡ true → can_transfer s true (record { user = user; address = at; base = rn; written_back = back }) ≡ true
+can_byte : (s : Space) (at rn : ℕ) (user : Bool) (back : Option ℕ) → at < 2 ^ 26 → s.allows user at ≡ true → can_transfer s true (record { user = user; address = at; base = rn; written_back = back }) ≡ true
 unfolding can_transfer
-can_byte s at rn user back low allowed = (λ i. lt-ltb at PC_END low i && allowed i)
+can_byte s at rn user back low allowed = (λ i. lt-ltb at (2 ^ 26) low i && allowed i)
 
 load_done : (s : Space) (r : Regs) (bytes : List ℕ) (byte : Bool) (rd rn at : ℕ) (user : Bool) (back : Option ℕ) → can_transfer s byte (record { user = user; address = at; base = rn; written_back = back }) ≡ true
     → single_step s r bytes true byte rd (record { user = user; address = at; base = rn; written_back = back }) ≡ goes (loaded (with_base_taking back r rn) rd (read_unit s bytes byte at)) bytes
@@ -154,7 +154,7 @@ pub offset-number : (r : Regs) (offset : ℕ) → offset_of r false offset ≡ o
 unfolding offset_of
 offset-number r offset = refl
 
--- an offset that is Rm, or Rm shifted by a number of bits: it isn't left open
+-- an offset that is Rm, or Rm shifted by a number of bits: it isn't unpredictable
 pub not_open-offset_register : (rm : ℕ) → rm < 15 → is_open_offset true rm ≡ false
 not_open-offset_register rm low = ne_eqb (bits rm 3 0) 15 (λ e. omega (arith, e, low))
 
@@ -199,19 +199,19 @@ moved-down base offset enough small = omega (arith, enough, small)
 -- LDR Rd,[Rn,offset], of a whole word
 pub step-ldr : (s : Space) (r : Regs) (bytes : List ℕ) (cond : ℕ) (reg up : Bool) (rn rd offset at : ℕ)
     → Fetches s r bytes (Single cond reg true up false false true rn rd offset) → holds cond r ≡ true → is_open_offset reg offset ≡ false → rd < 15
-    → moved up (first_operand r 8 rn) (offset_of r reg offset) ≡ at → at % 4 ≡ 0 → at < PC_END → s.allows (not r.svc) at ≡ true
-    → cpu_step s r bytes ≡ goes (at_next (with_register r rd (word_at s bytes at))) bytes
+    → moved up (first_operand r 8 rn) (offset_of r reg offset) ≡ at → at % 4 ≡ 0 → at < 2 ^ 26 → s.allows (not r.svc) at ≡ true
+    → cpu_step s r bytes ≡ goes (at_next (with_register r rd (word_in s bytes at))) bytes
 step-ldr s r bytes cond reg up rn rd offset at f meets fine low place aligned small allowed =
     single_by_class s r bytes cond reg true up false false true rn rd offset f meets (λ i. fine i || false || false || false)
     ∙ ap (single_step s r bytes true false rd) (access_plain r reg up rn offset at place)
     ∙ load_done s r bytes false rd rn at (not r.svc) None (can_word s at rn (not r.svc) None aligned small allowed)
-    ∙ ap (λ x. goes x bytes) (ap (loaded r rd) (whole_word s bytes at aligned) ∙ loaded-register r rd (word_at s bytes at) low)
+    ∙ ap (λ x. goes x bytes) (ap (loaded r rd) (whole_word s bytes at aligned) ∙ loaded-register r rd (word_in s bytes at) low)
 
 -- LDR PC,[Rn,offset]
 pub step-ldr_pc : (s : Space) (r : Regs) (bytes : List ℕ) (cond : ℕ) (reg up : Bool) (rn offset at : ℕ)
     → Fetches s r bytes (Single cond reg true up false false true rn 15 offset) → holds cond r ≡ true → is_open_offset reg offset ≡ false
-    → moved up (first_operand r 8 rn) (offset_of r reg offset) ≡ at → at % 4 ≡ 0 → at < PC_END → s.allows (not r.svc) at ≡ true
-    → cpu_step s r bytes ≡ goes (jumped r (word_at s bytes at)) bytes
+    → moved up (first_operand r 8 rn) (offset_of r reg offset) ≡ at → at % 4 ≡ 0 → at < 2 ^ 26 → s.allows (not r.svc) at ≡ true
+    → cpu_step s r bytes ≡ goes (jumped r (word_in s bytes at)) bytes
 unfolding loaded
 step-ldr_pc s r bytes cond reg up rn offset at f meets fine place aligned small allowed =
     single_by_class s r bytes cond reg true up false false true rn 15 offset f meets (λ i. fine i || false || false || false)
@@ -226,7 +226,7 @@ read_byte_unit s bytes at = refl
 -- LDRB Rd,[Rn,offset]
 pub step-ldrb : (s : Space) (r : Regs) (bytes : List ℕ) (cond : ℕ) (reg up : Bool) (rn rd offset at : ℕ)
     → Fetches s r bytes (Single cond reg true up true false true rn rd offset) → holds cond r ≡ true → is_open_offset reg offset ≡ false → rd < 15
-    → moved up (first_operand r 8 rn) (offset_of r reg offset) ≡ at → at < PC_END → s.allows (not r.svc) at ≡ true
+    → moved up (first_operand r 8 rn) (offset_of r reg offset) ≡ at → at < 2 ^ 26 → s.allows (not r.svc) at ≡ true
     → cpu_step s r bytes ≡ goes (at_next (with_register r rd (byte_at s bytes at))) bytes
 step-ldrb s r bytes cond reg up rn rd offset at f meets fine low place small allowed =
     single_by_class s r bytes cond reg true up true false true rn rd offset f meets (λ i. fine i || false || false || not_r15 rd low i)
@@ -237,7 +237,7 @@ step-ldrb s r bytes cond reg up rn rd offset at f meets fine low place small all
 -- STR Rd,[Rn,offset], to a whole word
 pub step-str : (s : Space) (r : Regs) (bytes : List ℕ) (cond : ℕ) (reg up : Bool) (rn rd offset at : ℕ)
     → Fetches s r bytes (Single cond reg true up false false false rn rd offset) → holds cond r ≡ true → is_open_offset reg offset ≡ false → rd < 15
-    → moved up (first_operand r 8 rn) (offset_of r reg offset) ≡ at → at % 4 ≡ 0 → at < PC_END → s.allows (not r.svc) at ≡ true
+    → moved up (first_operand r 8 rn) (offset_of r reg offset) ≡ at → at % 4 ≡ 0 → at < 2 ^ 26 → s.allows (not r.svc) at ≡ true
     → cpu_step s r bytes ≡ goes (at_next r) (with_word s bytes at (register r rd))
 step-str s r bytes cond reg up rn rd offset at f meets fine low place aligned small allowed =
     single_by_class s r bytes cond reg true up false false false rn rd offset f meets (λ i. fine i || false || false || false)
@@ -248,7 +248,7 @@ step-str s r bytes cond reg up rn rd offset at f meets fine low place aligned sm
 -- STRB Rd,[Rn,offset]
 pub step-strb : (s : Space) (r : Regs) (bytes : List ℕ) (cond : ℕ) (reg up : Bool) (rn rd offset at : ℕ)
     → Fetches s r bytes (Single cond reg true up true false false rn rd offset) → holds cond r ≡ true → is_open_offset reg offset ≡ false → rd < 15
-    → moved up (first_operand r 8 rn) (offset_of r reg offset) ≡ at → at < PC_END → s.allows (not r.svc) at ≡ true
+    → moved up (first_operand r 8 rn) (offset_of r reg offset) ≡ at → at < 2 ^ 26 → s.allows (not r.svc) at ≡ true
     → cpu_step s r bytes ≡ goes (at_next r) (with_byte s bytes at (register r rd % 2 ^ 8))
 step-strb s r bytes cond reg up rn rd offset at f meets fine low place small allowed =
     single_by_class s r bytes cond reg true up true false false rn rd offset f meets (λ i. fine i || false || false || false)
@@ -259,18 +259,18 @@ step-strb s r bytes cond reg up rn rd offset at f meets fine low place small all
 -- LDR Rd,[Rn,offset]!
 pub step-ldr_writeback : (s : Space) (r : Regs) (bytes : List ℕ) (cond : ℕ) (reg up : Bool) (rn rd offset at : ℕ)
     → Fetches s r bytes (Single cond reg true up false true true rn rd offset) → holds cond r ≡ true → is_open_offset reg offset ≡ false → rn < 15 → rd < 15 → (rd == rn) ≡ false
-    → moved up (register r rn) (offset_of r reg offset) ≡ at → at % 4 ≡ 0 → at < PC_END → s.allows (not r.svc) at ≡ true
-    → cpu_step s r bytes ≡ goes (at_next (with_register (with_register r rn at) rd (word_at s bytes at))) bytes
+    → moved up (register r rn) (offset_of r reg offset) ≡ at → at % 4 ≡ 0 → at < 2 ^ 26 → s.allows (not r.svc) at ≡ true
+    → cpu_step s r bytes ≡ goes (at_next (with_register (with_register r rn at) rd (word_in s bytes at))) bytes
 step-ldr_writeback s r bytes cond reg up rn rd offset at f meets fine base low apart place aligned small allowed =
     single_by_class s r bytes cond reg true up false true true rn rd offset f meets (λ i. fine i || not_r15 rn base i || apart i || false)
     ∙ ap (single_step s r bytes true false rd) (access_written r reg up rn offset at (ap (λ b. moved up b (offset_of r reg offset)) (first-register r 8 rn base) ∙ place))
     ∙ load_done s r bytes false rd rn at (not r.svc) (Some at) (can_word s at rn (not r.svc) (Some at) aligned small allowed)
-    ∙ ap (λ x. goes x bytes) (ap (loaded (with_register r rn at) rd) (whole_word s bytes at aligned) ∙ loaded-register (with_register r rn at) rd (word_at s bytes at) low)
+    ∙ ap (λ x. goes x bytes) (ap (loaded (with_register r rn at) rd) (whole_word s bytes at aligned) ∙ loaded-register (with_register r rn at) rd (word_in s bytes at) low)
 
 -- STR Rd,[Rn,offset]!
 pub step-str_writeback : (s : Space) (r : Regs) (bytes : List ℕ) (cond : ℕ) (reg up : Bool) (rn rd offset at : ℕ)
     → Fetches s r bytes (Single cond reg true up false true false rn rd offset) → holds cond r ≡ true → is_open_offset reg offset ≡ false → rn < 15 → rd < 15
-    → moved up (register r rn) (offset_of r reg offset) ≡ at → at % 4 ≡ 0 → at < PC_END → s.allows (not r.svc) at ≡ true
+    → moved up (register r rn) (offset_of r reg offset) ≡ at → at % 4 ≡ 0 → at < 2 ^ 26 → s.allows (not r.svc) at ≡ true
     → cpu_step s r bytes ≡ goes (at_next (with_register r rn at)) (with_word s bytes at (register r rd))
 step-str_writeback s r bytes cond reg up rn rd offset at f meets fine base low place aligned small allowed =
     single_by_class s r bytes cond reg true up false true false rn rd offset f meets (λ i. fine i || not_r15 rn base i || false || false)
@@ -281,7 +281,7 @@ step-str_writeback s r bytes cond reg up rn rd offset at f meets fine base low p
 -- LDRB Rd,[Rn,offset]! and STRB Rd,[Rn,offset]!
 pub step-ldrb_writeback : (s : Space) (r : Regs) (bytes : List ℕ) (cond : ℕ) (reg up : Bool) (rn rd offset at : ℕ)
     → Fetches s r bytes (Single cond reg true up true true true rn rd offset) → holds cond r ≡ true → is_open_offset reg offset ≡ false → rn < 15 → rd < 15 → (rd == rn) ≡ false
-    → moved up (register r rn) (offset_of r reg offset) ≡ at → at < PC_END → s.allows (not r.svc) at ≡ true
+    → moved up (register r rn) (offset_of r reg offset) ≡ at → at < 2 ^ 26 → s.allows (not r.svc) at ≡ true
     → cpu_step s r bytes ≡ goes (at_next (with_register (with_register r rn at) rd (byte_at s bytes at))) bytes
 step-ldrb_writeback s r bytes cond reg up rn rd offset at f meets fine base low apart place small allowed =
     single_by_class s r bytes cond reg true up true true true rn rd offset f meets (λ i. fine i || not_r15 rn base i || apart i || not_r15 rd low i)
@@ -291,7 +291,7 @@ step-ldrb_writeback s r bytes cond reg up rn rd offset at f meets fine base low 
 
 pub step-strb_writeback : (s : Space) (r : Regs) (bytes : List ℕ) (cond : ℕ) (reg up : Bool) (rn rd offset at : ℕ)
     → Fetches s r bytes (Single cond reg true up true true false rn rd offset) → holds cond r ≡ true → is_open_offset reg offset ≡ false → rn < 15 → rd < 15
-    → moved up (register r rn) (offset_of r reg offset) ≡ at → at < PC_END → s.allows (not r.svc) at ≡ true
+    → moved up (register r rn) (offset_of r reg offset) ≡ at → at < 2 ^ 26 → s.allows (not r.svc) at ≡ true
     → cpu_step s r bytes ≡ goes (at_next (with_register r rn at)) (with_byte s bytes at (register r rd % 2 ^ 8))
 step-strb_writeback s r bytes cond reg up rn rd offset at f meets fine base low place small allowed =
     single_by_class s r bytes cond reg true up true true false rn rd offset f meets (λ i. fine i || not_r15 rn base i || false || false)
@@ -300,58 +300,58 @@ step-strb_writeback s r bytes cond reg up rn rd offset at f meets fine base low 
     ∙ ap (goes (at_next (with_register r rn at))) (stored_byte s r bytes rd at low)
 
 -- LDR Rd,[Rn],offset
-pub step-ldr_behind : (s : Space) (r : Regs) (bytes : List ℕ) (cond : ℕ) (reg up : Bool) (rn rd offset at next : ℕ)
+pub step-ldr_after : (s : Space) (r : Regs) (bytes : List ℕ) (cond : ℕ) (reg up : Bool) (rn rd offset at next : ℕ)
     → Fetches s r bytes (Single cond reg false up false false true rn rd offset) → holds cond r ≡ true → is_open_offset reg offset ≡ false → rn < 15 → rd < 15 → (rd == rn) ≡ false
-    → register r rn ≡ at → moved up at (offset_of r reg offset) ≡ next → at % 4 ≡ 0 → at < PC_END → s.allows (not r.svc) at ≡ true
-    → cpu_step s r bytes ≡ goes (at_next (with_register (with_register r rn next) rd (word_at s bytes at))) bytes
-step-ldr_behind s r bytes cond reg up rn rd offset at next f meets fine base low apart place moves aligned small allowed =
+    → register r rn ≡ at → moved up at (offset_of r reg offset) ≡ next → at % 4 ≡ 0 → at < 2 ^ 26 → s.allows (not r.svc) at ≡ true
+    → cpu_step s r bytes ≡ goes (at_next (with_register (with_register r rn next) rd (word_in s bytes at))) bytes
+step-ldr_after s r bytes cond reg up rn rd offset at next f meets fine base low apart place moves aligned small allowed =
     single_by_class s r bytes cond reg false up false false true rn rd offset f meets (λ i. fine i || not_r15 rn base i || apart i || false)
-    ∙ ap (single_step s r bytes true false rd) (access_behind r reg up rn offset at next (first-register r 8 rn base ∙ place) moves)
+    ∙ ap (single_step s r bytes true false rd) (access_after r reg up rn offset at next (first-register r 8 rn base ∙ place) moves)
     ∙ load_done s r bytes false rd rn at (not r.svc) (Some next) (can_word s at rn (not r.svc) (Some next) aligned small allowed)
-    ∙ ap (λ x. goes x bytes) (ap (loaded (with_register r rn next) rd) (whole_word s bytes at aligned) ∙ loaded-register (with_register r rn next) rd (word_at s bytes at) low)
+    ∙ ap (λ x. goes x bytes) (ap (loaded (with_register r rn next) rd) (whole_word s bytes at aligned) ∙ loaded-register (with_register r rn next) rd (word_in s bytes at) low)
 
 -- STR Rd,[Rn],offset
-pub step-str_behind : (s : Space) (r : Regs) (bytes : List ℕ) (cond : ℕ) (reg up : Bool) (rn rd offset at next : ℕ)
+pub step-str_after : (s : Space) (r : Regs) (bytes : List ℕ) (cond : ℕ) (reg up : Bool) (rn rd offset at next : ℕ)
     → Fetches s r bytes (Single cond reg false up false false false rn rd offset) → holds cond r ≡ true → is_open_offset reg offset ≡ false → rn < 15 → rd < 15
-    → register r rn ≡ at → moved up at (offset_of r reg offset) ≡ next → at % 4 ≡ 0 → at < PC_END → s.allows (not r.svc) at ≡ true
+    → register r rn ≡ at → moved up at (offset_of r reg offset) ≡ next → at % 4 ≡ 0 → at < 2 ^ 26 → s.allows (not r.svc) at ≡ true
     → cpu_step s r bytes ≡ goes (at_next (with_register r rn next)) (with_word s bytes at (register r rd))
-step-str_behind s r bytes cond reg up rn rd offset at next f meets fine base low place moves aligned small allowed =
+step-str_after s r bytes cond reg up rn rd offset at next f meets fine base low place moves aligned small allowed =
     single_by_class s r bytes cond reg false up false false false rn rd offset f meets (λ i. fine i || not_r15 rn base i || false || false)
-    ∙ ap (single_step s r bytes false false rd) (access_behind r reg up rn offset at next (first-register r 8 rn base ∙ place) moves)
+    ∙ ap (single_step s r bytes false false rd) (access_after r reg up rn offset at next (first-register r 8 rn base ∙ place) moves)
     ∙ store_done s r bytes false rd rn at (not r.svc) (Some next) (can_word s at rn (not r.svc) (Some next) aligned small allowed)
     ∙ ap (goes (at_next (with_register r rn next))) (stored_word s r bytes rd at low aligned)
 
 -- LDRB Rd,[Rn],offset and STRB Rd,[Rn],offset
-pub step-ldrb_behind : (s : Space) (r : Regs) (bytes : List ℕ) (cond : ℕ) (reg up : Bool) (rn rd offset at next : ℕ)
+pub step-ldrb_after : (s : Space) (r : Regs) (bytes : List ℕ) (cond : ℕ) (reg up : Bool) (rn rd offset at next : ℕ)
     → Fetches s r bytes (Single cond reg false up true false true rn rd offset) → holds cond r ≡ true → is_open_offset reg offset ≡ false → rn < 15 → rd < 15 → (rd == rn) ≡ false
-    → register r rn ≡ at → moved up at (offset_of r reg offset) ≡ next → at < PC_END → s.allows (not r.svc) at ≡ true
+    → register r rn ≡ at → moved up at (offset_of r reg offset) ≡ next → at < 2 ^ 26 → s.allows (not r.svc) at ≡ true
     → cpu_step s r bytes ≡ goes (at_next (with_register (with_register r rn next) rd (byte_at s bytes at))) bytes
-step-ldrb_behind s r bytes cond reg up rn rd offset at next f meets fine base low apart place moves small allowed =
+step-ldrb_after s r bytes cond reg up rn rd offset at next f meets fine base low apart place moves small allowed =
     single_by_class s r bytes cond reg false up true false true rn rd offset f meets (λ i. fine i || not_r15 rn base i || apart i || not_r15 rd low i)
-    ∙ ap (single_step s r bytes true true rd) (access_behind r reg up rn offset at next (first-register r 8 rn base ∙ place) moves)
+    ∙ ap (single_step s r bytes true true rd) (access_after r reg up rn offset at next (first-register r 8 rn base ∙ place) moves)
     ∙ load_done s r bytes true rd rn at (not r.svc) (Some next) (can_byte s at rn (not r.svc) (Some next) small allowed)
     ∙ ap (λ x. goes x bytes) (ap (loaded (with_register r rn next) rd) (read_byte_unit s bytes at) ∙ loaded-register (with_register r rn next) rd (byte_at s bytes at) low)
 
-pub step-strb_behind : (s : Space) (r : Regs) (bytes : List ℕ) (cond : ℕ) (reg up : Bool) (rn rd offset at next : ℕ)
+pub step-strb_after : (s : Space) (r : Regs) (bytes : List ℕ) (cond : ℕ) (reg up : Bool) (rn rd offset at next : ℕ)
     → Fetches s r bytes (Single cond reg false up true false false rn rd offset) → holds cond r ≡ true → is_open_offset reg offset ≡ false → rn < 15 → rd < 15
-    → register r rn ≡ at → moved up at (offset_of r reg offset) ≡ next → at < PC_END → s.allows (not r.svc) at ≡ true
+    → register r rn ≡ at → moved up at (offset_of r reg offset) ≡ next → at < 2 ^ 26 → s.allows (not r.svc) at ≡ true
     → cpu_step s r bytes ≡ goes (at_next (with_register r rn next)) (with_byte s bytes at (register r rd % 2 ^ 8))
-step-strb_behind s r bytes cond reg up rn rd offset at next f meets fine base low place moves small allowed =
+step-strb_after s r bytes cond reg up rn rd offset at next f meets fine base low place moves small allowed =
     single_by_class s r bytes cond reg false up true false false rn rd offset f meets (λ i. fine i || not_r15 rn base i || false || false)
-    ∙ ap (single_step s r bytes false true rd) (access_behind r reg up rn offset at next (first-register r 8 rn base ∙ place) moves)
+    ∙ ap (single_step s r bytes false true rd) (access_after r reg up rn offset at next (first-register r 8 rn base ∙ place) moves)
     ∙ store_done s r bytes true rd rn at (not r.svc) (Some next) (can_byte s at rn (not r.svc) (Some next) small allowed)
     ∙ ap (goes (at_next (with_register r rn next))) (stored_byte s r bytes rd at low)
 
 -- ---- LDM and STM
 
 block_by_class : (s : Space) (r : Regs) (bytes : List ℕ) (cond : ℕ) (pre up psr wb load : Bool) (rn list : ℕ)
-    → Fetches s r bytes (Block cond pre up psr wb load rn list) → holds cond r ≡ true → is_open_block psr wb load rn list ≡ false
+    → Fetches s r bytes (Block cond pre up psr wb load rn list) → holds cond r ≡ true → is_unpredictable_block psr wb load rn list ≡ false
     → cpu_step s r bytes ≡ block_step s r bytes psr load list (block_access r pre up wb rn (length (registers_in list)))
 unfolding class_step is_unpredictable
 block_by_class s r bytes cond pre up psr wb load rn list f meets fine =
     step-by_class s r bytes (Block cond pre up psr wb load rn list) f meets fine
 
--- where a block of so many words begins, by its base's value and the value that is written back
+-- where a block of n words begins, by its base's value and the value that is written back
 abbrev pub block_start : Bool → Bool → ℕ → ℕ → ℕ
 block_start pre up base target = word_address (((if up then base else target) + (if same pre up then 4 else 0)) % 2 ^ 32)
 
@@ -378,13 +378,13 @@ ldm_done s r bytes list start rn back allowed clear = rw (allowed, clear) refl
 
 ldm_pc_done : (s : Space) (r : Regs) (bytes : List ℕ) (list start rn : ℕ) (back : Option ℕ) → refused_word (length (registers_in list)) s (not r.svc) start ≡ None → bit list 15 ≡ true
     → block_step s r bytes false true list (record { user = not r.svc; address = start; base = rn; written_back = back })
-    ≡ goes (jumped (with_words (low_registers_in list) s bytes (with_base_taking back r rn) r.svc start) (word_at s bytes ((start + 4 * length (low_registers_in list)) % 2 ^ 32))) bytes
+    ≡ goes (jumped (with_words (low_registers_in list) s bytes (with_base_taking back r rn) r.svc start) (word_in s bytes ((start + 4 * length (low_registers_in list)) % 2 ^ 32))) bytes
 unfolding block_step load_block load_with_r15
 ldm_pc_done s r bytes list start rn back allowed set = rw (allowed, set) refl
 
 -- STM without ^: the registers are stored as they were, then the base takes its value
 pub step-stm : (s : Space) (r : Regs) (bytes : List ℕ) (cond : ℕ) (pre up wb : Bool) (rn list target start : ℕ)
-    → Fetches s r bytes (Block cond pre up false wb false rn list) → holds cond r ≡ true → is_open_block false wb false rn list ≡ false
+    → Fetches s r bytes (Block cond pre up false wb false rn list) → holds cond r ≡ true → is_unpredictable_block false wb false rn list ≡ false
     → moved up (register r rn) (4 * length (registers_in list)) ≡ target → block_start pre up (register r rn) target ≡ start
     → refused_word (length (registers_in list)) s (not r.svc) start ≡ None
     → cpu_step s r bytes ≡ goes (at_next (with_base_taking (taken_back wb target) r rn)) (with_block (registers_in list) s bytes r r.svc start)
@@ -395,7 +395,7 @@ step-stm s r bytes cond pre up wb rn list target start f meets fine moves begins
 
 -- LDM without ^ and R15
 pub step-ldm : (s : Space) (r : Regs) (bytes : List ℕ) (cond : ℕ) (pre up wb : Bool) (rn list target start : ℕ)
-    → Fetches s r bytes (Block cond pre up false wb true rn list) → holds cond r ≡ true → is_open_block false wb true rn list ≡ false → bit list 15 ≡ false
+    → Fetches s r bytes (Block cond pre up false wb true rn list) → holds cond r ≡ true → is_unpredictable_block false wb true rn list ≡ false → bit list 15 ≡ false
     → moved up (register r rn) (4 * length (registers_in list)) ≡ target → block_start pre up (register r rn) target ≡ start
     → refused_word (length (registers_in list)) s (not r.svc) start ≡ None
     → cpu_step s r bytes ≡ goes (at_next (with_words (low_registers_in list) s bytes (with_base_taking (taken_back wb target) r rn) r.svc start)) bytes
@@ -406,10 +406,10 @@ step-ldm s r bytes cond pre up wb rn list target start f meets fine clear moves 
 
 -- LDM without ^ that loads R15: a jump that keeps the flags
 pub step-ldm_pc : (s : Space) (r : Regs) (bytes : List ℕ) (cond : ℕ) (pre up wb : Bool) (rn list target start : ℕ)
-    → Fetches s r bytes (Block cond pre up false wb true rn list) → holds cond r ≡ true → is_open_block false wb true rn list ≡ false → bit list 15 ≡ true
+    → Fetches s r bytes (Block cond pre up false wb true rn list) → holds cond r ≡ true → is_unpredictable_block false wb true rn list ≡ false → bit list 15 ≡ true
     → moved up (register r rn) (4 * length (registers_in list)) ≡ target → block_start pre up (register r rn) target ≡ start
     → refused_word (length (registers_in list)) s (not r.svc) start ≡ None
-    → cpu_step s r bytes ≡ goes (jumped (with_words (low_registers_in list) s bytes (with_base_taking (taken_back wb target) r rn) r.svc start) (word_at s bytes ((start + 4 * length (low_registers_in list)) % 2 ^ 32))) bytes
+    → cpu_step s r bytes ≡ goes (jumped (with_words (low_registers_in list) s bytes (with_base_taking (taken_back wb target) r rn) r.svc start) (word_in s bytes ((start + 4 * length (low_registers_in list)) % 2 ^ 32))) bytes
 step-ldm_pc s r bytes cond pre up wb rn list target start f meets fine set moves begins allowed =
     block_by_class s r bytes cond pre up false wb true rn list f meets fine
     ∙ ap (block_step s r bytes false true list) (access_block r pre up wb rn (length (registers_in list)) target start moves begins)
@@ -428,23 +428,23 @@ pub with_words-none : (s : Space) (bytes : List ℕ) (r : Regs) (svc : Bool) (at
 unfolding with_words
 with_words-none s bytes r svc at = refl
 
-pub with_words-more : (n : ℕ) (ns : List ℕ) (s : Space) (bytes : List ℕ) (r : Regs) (svc : Bool) (at : ℕ) → r.svc ≡ svc → with_words (n ∷ ns) s bytes r svc at ≡ with_words ns s bytes (with_register r n (word_at s bytes at)) svc (next_word at)
+pub with_words-more : (n : ℕ) (ns : List ℕ) (s : Space) (bytes : List ℕ) (r : Regs) (svc : Bool) (at : ℕ) → r.svc ≡ svc → with_words (n ∷ ns) s bytes r svc at ≡ with_words ns s bytes (with_register r n (word_in s bytes at)) svc (next_word at)
 unfolding with_words
-with_words-more n ns s bytes r svc at is = (λ i. with_words ns s bytes (with_banked (sym is i) r n (word_at s bytes at)) svc (next_word at))
+with_words-more n ns s bytes r svc at is = (λ i. with_words ns s bytes (with_banked (sym is i) r n (word_in s bytes at)) svc (next_word at))
 
 pub refused-none : (s : Space) (user : Bool) (at : ℕ) → refused_word 0 s user at ≡ None
 unfolding refused_word
 refused-none s user at = refl
 
-pub refused-more : (k : ℕ) (s : Space) (user : Bool) (at : ℕ) → at < PC_END → s.allows user at ≡ true → refused_word k s user (next_word at) ≡ None → refused_word (suc k) s user at ≡ None
+pub refused-more : (k : ℕ) (s : Space) (user : Bool) (at : ℕ) → at < 2 ^ 26 → s.allows user at ≡ true → refused_word k s user (next_word at) ≡ None → refused_word (suc k) s user at ≡ None
 unfolding refused_word
-refused-more k s user at low allowed rest = rw (lt-ltb at PC_END low, allowed) rest
+refused-more k s user at low allowed rest = rw (lt-ltb at (2 ^ 26) low, allowed) rest
 
 -- a block whose words may all be used
-pub refused-range : (k : ℕ) (s : Space) (user : Bool) (at : ℕ) → at + 4 * k ≤ PC_END → ((i : ℕ) → i < k → s.allows user (at + 4 * i) ≡ true) → refused_word k s user at ≡ None
+pub refused-range : (k : ℕ) (s : Space) (user : Bool) (at : ℕ) → at + 4 * k ≤ (2 ^ 26) → ((i : ℕ) → i < k → s.allows user (at + 4 * i) ≡ true) → refused_word k s user at ≡ None
 refused-range zero s user at low allowed = refused-none s user at
 refused-range (suc k) s user at low allowed =
-    let behind : next_word at ≡ at + 4 = omega (arith, low) in
+    let above : next_word at ≡ at + 4 = omega (arith, low) in
     refused-more k s user at (omega (arith, low)) (ap (s.allows user) (let e : at ≡ at + 4 * 0 = omega arith in e) ∙ allowed 0 (omega arith))
-    (ap (refused_word k s user) behind
+    (ap (refused_word k s user) above
     ∙ refused-range k s user (at + 4) (omega (arith, low)) (λ i within. ap (s.allows user) (let e : at + 4 + 4 * i ≡ at + 4 * suc i = omega arith in e) ∙ allowed (suc i) (omega (arith, within))))

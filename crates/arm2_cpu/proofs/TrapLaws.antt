@@ -7,19 +7,19 @@ use Rattle.arm_isa.specs.Words.{means}
 use Rattle.arm2_cpu.specs.declared.access.Access.{Access}
 use Rattle.arm2_cpu.specs.declared.event.CpuEvent.{CpuEvent}
 use Rattle.arm2_cpu.specs.declared.event.CpuEvent.TheVariants as events
-use Rattle.arm2_cpu.specs.declared.operations.Computed.{Computed}
-use Rattle.arm2_cpu.specs.declared.regs.Regs.{Regs}
-use Rattle.arm2_cpu.specs.declared.regs.TheConstants.{R15}
+use Rattle.arm2_alu.specs.declared.operations.Computed.{Computed}
+use Rattle.arm2_alu.specs.declared.regs.Regs.{Regs}
+use Rattle.arm_isa.specs.Numbers.{R15}
 use Rattle.arm2_cpu.specs.Access.{single_access, block_access}
 use Rattle.arm2_cpu.specs.Block.{registers_in, refused_word, unless_refused, store_block, load_with_r15, load_block, last_word, block_step}
 use Rattle.arm2_cpu.specs.Branch.{branch_step}
-use Rattle.arm2_cpu.specs.Conditions.{holds}
+use Rattle.arm2_alu.specs.Conditions.{holds}
 use Rattle.arm2_cpu.specs.Data.{tested, set_with_flags, concluded, data_step}
 use Rattle.arm2_cpu.specs.Memory.{Space, read_word}
 use Rattle.arm2_cpu.specs.Multiply.{multiply_step}
-use Rattle.arm2_cpu.specs.Operations.{is_test}
+use Rattle.arm2_alu.specs.Operations.{is_test}
 use Rattle.arm2_cpu.specs.Outcomes.{Done, Stepped, IfTrap, with_memory}
-use Rattle.arm2_cpu.specs.Registers.{takes_psr}
+use Rattle.arm2_alu.specs.Registers.{takes_psr}
 use Rattle.arm2_cpu.specs.Single.{can_transfer, load_single, store_single, single_step}
 use Rattle.arm2_cpu.specs.Step.{class_step, instruction_step, word_step, fetched_step, cpu_step}
 use Rattle.arm2_cpu.specs.Unpredictable.{is_unpredictable}

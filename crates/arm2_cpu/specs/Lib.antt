@@ -1,10 +1,6 @@
+-- The definitions of one instruction: the memory, its outcomes, the classes, and the step.
 pub mod Memory
-pub mod Registers
-pub mod Conditions
-pub mod Shifts
-pub mod Operations
 pub mod Outcomes
-pub mod Operands
 pub mod Data
 pub mod Multiply
 pub mod Branch
@@ -13,5 +9,3 @@ pub mod Single
 pub mod Block
 pub mod Unpredictable
 pub mod Step
-pub mod Window
-pub mod WindowLaws

@@ -1,5 +1,6 @@
 -- A memory: one list of bytes for both modes, and which addresses each mode may use.
-use Rattle.std.specs.Prelude.{◌≡◌, ℕ, ◌+◌, ◌-◌, ◌*◌, ◌/◌, ◌%◌, ◌^◌, ◌<◌, ◌≤◌, Bool, true, if◌then◌else◌, List, [], ◌∷◌, ◌++◌, length, take, drop, slice_index, Option, Some, None}
+use Rattle.std.specs.Prelude.{◌≡◌, ℕ, ◌+◌, ◌-◌, ◌*◌, ◌/◌, ◌<◌, ◌≤◌, Bool, true, if◌then◌else◌, List, [], ◌∷◌, slice_index, Option, Some, None}
+use Rattle.bv_base.specs.Words.{word_bytes, word_at, put_at}
 
 -- the address of the first byte, the number of bytes, and the addresses that user mode (true) and supervisor mode may use
 pub record Space : Type 0 where
@@ -20,17 +21,13 @@ pub record IsLawful (s : Space) : Type 0 where
 unfoldable pub byte_at : Space → List ℕ → ℕ → ℕ
 byte_at s bytes at = slice_index bytes (at - s.base)
 
--- the word at an address is its four bytes, the lowest first
-unfoldable pub word_at : Space → List ℕ → ℕ → ℕ
-word_at s bytes at = byte_at s bytes at + byte_at s bytes (at + 1) * 2 ^ 8 + byte_at s bytes (at + 2) * 2 ^ 16 + byte_at s bytes (at + 3) * 2 ^ 24
-
--- the four bytes of a word, the lowest first
-abbrev pub word_bytes : ℕ → List ℕ
-word_bytes w = (w % 2 ^ 8) ∷ (w / 2 ^ 8 % 2 ^ 8) ∷ (w / 2 ^ 16 % 2 ^ 8) ∷ (w / 2 ^ 24 % 2 ^ 8) ∷ []
+-- the word at an address
+abbrev pub word_in : Space → List ℕ → ℕ → ℕ
+word_in s bytes at = word_at bytes (at - s.base)
 
 -- the memory with other bytes from an address on
-unfoldable pub with_bytes : Space → List ℕ → ℕ → List ℕ → List ℕ
-with_bytes s bytes at new = take (at - s.base) bytes ++ new ++ drop (at - s.base + length new) bytes
+abbrev pub with_bytes : Space → List ℕ → ℕ → List ℕ → List ℕ
+with_bytes s bytes at new = put_at bytes (at - s.base) new
 
 -- the memory with another byte, or another word, at an address
 abbrev pub with_byte : Space → List ℕ → ℕ → ℕ → List ℕ
@@ -44,7 +41,7 @@ unfoldable pub read_byte : Space → List ℕ → Bool → ℕ → Option ℕ
 read_byte s bytes user at = if s.allows user at then Some (byte_at s bytes at) else None
 
 unfoldable pub read_word : Space → List ℕ → Bool → ℕ → Option ℕ
-read_word s bytes user at = if s.allows user at then Some (word_at s bytes at) else None
+read_word s bytes user at = if s.allows user at then Some (word_in s bytes at) else None
 
 -- what a write leaves: a refused one changes nothing
 unfoldable pub wrote_byte : Space → List ℕ → Bool → ℕ → ℕ → List ℕ

@@ -1,12 +1,8 @@
-ghost use Rattle.std.specs.Prelude.{◌≡◌, ◌<◌, ◌%◌};
-ghost use Rattle.arm2_cpu.specs.Access.{moved, writes_back, offset_of, single_access, block_access};
-ghost use Rattle.arm2_cpu.specs.Registers.{IsValidRegs};
+//! Which addresses a transfer uses, and what its base takes.
+ghost use Rattle.std.specs.Prelude.{◌≡◌, ◌<◌, ◌%◌, ◌^◌};
+ghost use Rattle.arm2_cpu.specs.Access.{moved, with_base, writes_back, offset_of, single_access, block_access};
 
-use crate::event::CpuEvent;
-use crate::operands::amount_operand;
-use crate::regs::Regs;
-use arm_isa::OPERANDS;
-use bv_run::Trap;
+use arm2_alu::{Regs, amount_operand};
 
 /// Which address a transfer begins at, and what its base register takes.
 #[derive(Clone, Copy)]
@@ -22,6 +18,7 @@ pub struct Access {
 }
 
 #[tactic(auto, unfolding(crate::specs::Access::moved))]
+#[inline]
 fn moved(up: bool, base: u32, offset: u32) -> u32
     ensures { result ≡ moved up base offset }
 {
@@ -33,6 +30,7 @@ fn moved(up: bool, base: u32, offset: u32) -> u32
 }
 
 /// Whether LDR or STR writes the moved address back to its base.
+#[inline]
 pub(crate) fn writes_back(pre: bool, wb: bool) -> bool
     ensures { result ≡ writes_back pre wb }
 {
@@ -40,9 +38,9 @@ pub(crate) fn writes_back(pre: bool, wb: bool) -> bool
 }
 
 #[tactic(auto, unfolding(crate::specs::Access::offset_of))]
+#[inline]
 fn offset_of(regs: &Regs, reg: bool, offset: u16) -> u32
-    requires valid { IsValidRegs regs.now }
-    requires offset { offset < OPERANDS }
+    requires { offset < 2 ^ 12 }
     ensures { result ≡ offset_of regs.now reg offset }
 {
     if reg {
@@ -54,6 +52,7 @@ fn offset_of(regs: &Regs, reg: bool, offset: u16) -> u32
 
 #[tactic(auto, unfolding(crate::specs::Access::single_access))]
 /// The access of LDR and STR.
+#[inline(always)]
 pub(crate) fn single_access(
     regs: &Regs,
     reg: bool,
@@ -63,8 +62,7 @@ pub(crate) fn single_access(
     rn: u8,
     offset: u16,
 ) -> Access
-    requires valid { IsValidRegs regs.now }
-    requires offset { offset < OPERANDS }
+    requires { offset < 2 ^ 12 }
     ensures { result ≡ single_access regs.now reg pre up wb rn offset }
 {
     let base = regs.first_operand(8, rn);
@@ -82,7 +80,7 @@ pub(crate) fn single_access(
 }
 
 #[tactic(auto, unfolding(crate::specs::Access::block_access))]
-/// The access of LDM and STM of so many words.
+/// The access of LDM and STM of `count` words.
 pub(crate) fn block_access(regs: &Regs, pre: bool, up: bool, wb: bool, rn: u8, count: u32) -> Access
     requires { count < 17 }
     ensures value { result ≡ block_access regs.now pre up wb rn count }
@@ -100,28 +98,12 @@ pub(crate) fn block_access(regs: &Regs, pre: bool, up: bool, wb: bool, rn: u8, c
     }
 }
 
-impl Regs {
-    ghost use Rattle.std.specs.Prelude.{◌≡◌};
-    ghost use Rattle.arm2_cpu.specs.Access.{with_base, data_trapped};
-
-    /// Gives a transfer's base register what it takes.
-    pub(crate) fn write_base(&mut self, access: &Access)
-        requires { IsValidRegs self.old }
-        ensures value { self.new ≡ with_base self.old access.now }
-        ensures valid { IsValidRegs self.new }
-    {
-        if let Some(value) = access.written_back {
-            self.set_register(access.base, value);
-        }
-    }
-
-    /// The trap of a refused access.
-    pub(crate) fn data_trap(&self, address: u32) -> CpuEvent
-        ensures { record { event = result; regs = self.now } ≡ data_trapped address self.now }
-    {
-        CpuEvent::Trap {
-            kind: Trap::Data,
-            address,
-        }
+/// Gives a transfer's base register what it takes.
+#[inline]
+pub(crate) fn write_base(regs: &mut Regs, access: &Access)
+    ensures { regs.new ≡ with_base regs.old access.now }
+{
+    if let Some(value) = access.written_back {
+        regs.set_register(access.base, value);
     }
 }

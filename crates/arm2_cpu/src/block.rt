@@ -1,15 +1,16 @@
+//! LDM and STM.
 ghost use Rattle.std.specs.Prelude.{◌≡◌, ◌≤◌, ◌<◌, ◌%◌, ◌^◌, true, None, length};
 ghost use Rattle.arm2_cpu.specs.Access.{can_use};
 ghost use Rattle.arm2_cpu.specs.Block.{registers_among, registers_in, low_registers_in, next_word, refused_word, stored_value, with_block, with_words, store_block, last_word, with_low_words, load_with_r15, load_block, block_step};
 ghost use Rattle.arm_isa.specs.Fields.{bit};
-ghost use Rattle.arm2_cpu.specs.Memory.{word_at, with_word};
-ghost use Rattle.arm2_cpu.specs.Registers.{IsValidRegs};
+ghost use Rattle.arm2_cpu.specs.Memory.{word_in, with_word};
 
-use crate::access::Access;
-use crate::conditions::has_bit;
-use crate::event::CpuEvent;
+use crate::access::{Access, write_base};
+use crate::event::{CpuEvent, data_trap, trap};
 use crate::memory::Memory;
-use crate::regs::{PC_END, R15, Regs};
+use arm_isa::bit;
+use arm_isa::numbers::R15;
+use arm2_alu::{PC_END, Regs};
 use bv_run::Trap;
 
 /// Whether a list has a register.
@@ -17,11 +18,11 @@ fn is_listed(list: u16, n: u8) -> bool
     requires { n < 16 }
     ensures { result ≡ bit list n }
 {
-    has_bit(list.into(), n.into())
+    bit(list.into(), n.into())
 }
 
 #[tactic(auto, using(crate::proofs::BlockLaws::count_laws))]
-/// How many registers a list has.
+/// The number of registers in a list.
 pub(crate) fn count_of(list: u16) -> u32
     ensures value { result ≡ length (registers_in list) }
     ensures few { result < 17 }
@@ -30,7 +31,7 @@ pub(crate) fn count_of(list: u16) -> u32
 }
 
 #[tactic(auto, using(crate::proofs::BlockLaws::count_laws))]
-/// How many registers below R15 a list has.
+/// The number of registers below R15 in a list.
 fn count_low(list: u16) -> u32
     ensures value { result ≡ length (low_registers_in list) }
     ensures few { result < 16 }
@@ -46,7 +47,7 @@ fn can_use<M: Memory>(mem: &M, user: bool, at: u32) -> bool
     at < PC_END && mem.word(user, at).is_some()
 }
 
-/// The address of the first refused word, among so many from an address up.
+/// The address of the first refused word, among `count` words from an address up.
 fn first_refused<M: Memory>(mem: &M, user: bool, start: u32, count: u32) -> Option<u32>
     requires { start % 4 ≡ 0 }
     ensures { result ≡ refused_word count M.space user start }
@@ -66,7 +67,7 @@ fn first_refused<M: Memory>(mem: &M, user: bool, start: u32, count: u32) -> Opti
 fn word_of<M: Memory>(mem: &M, user: bool, at: u32) -> u32
     requires aligned { at % 4 ≡ 0 }
     requires allowed { can_use M.space user at ≡ true }
-    ensures { result ≡ word_at M.space (M.bytes mem.now) at }
+    ensures { result ≡ word_in M.space (M.bytes mem.now) at }
 {
     match mem.word(user, at) {
         Some(word) => word,
@@ -86,7 +87,6 @@ fn set_word_of<M: Memory>(mem: &mut M, user: bool, at: u32, value: u32)
 
 #[tactic(auto, unfolding(crate::specs::Block::stored_value))]
 fn stored_value(regs: &Regs, svc: bool, n: u8) -> u32
-    requires { IsValidRegs regs.now }
     ensures { result ≡ stored_value regs.now svc n }
 {
     if n == R15 {
@@ -105,7 +105,6 @@ fn store_registers<M: Memory>(
     user: bool,
     start: u32,
 )
-    requires valid { IsValidRegs regs.now }
     requires aligned { start % 4 ≡ 0 }
     requires allowed { refused_word (length (registers_in list)) M.space user start ≡ None }
     ensures { M.bytes mem.new ≡ with_block (registers_in list) M.space (M.bytes mem.old) regs.now svc start }
@@ -122,11 +121,9 @@ fn store_registers<M: Memory>(
 
 /// Loads the registers of a list below R15 from an address up.
 fn load_registers<M: Memory>(regs: &mut Regs, mem: &M, svc: bool, list: u16, user: bool, start: u32)
-    requires valid { IsValidRegs regs.old }
     requires aligned { start % 4 ≡ 0 }
     requires allowed { refused_word (length (registers_in list)) M.space user start ≡ None }
-    ensures value { regs.new ≡ with_words (low_registers_in list) M.space (M.bytes mem.now) regs.old svc start }
-    ensures valid { IsValidRegs regs.new }
+    ensures { regs.new ≡ with_words (low_registers_in list) M.space (M.bytes mem.now) regs.old svc start }
 {
     let mut at = start;
     'registers: for n in 0..15u8 {
@@ -147,28 +144,24 @@ fn store_block<M: Memory>(
     list: u16,
     access: &Access,
 ) -> CpuEvent
-    requires valid { IsValidRegs regs.old }
     requires aligned { access.now.address % 4 ≡ 0 }
     requires allowed { refused_word (length (registers_in list)) M.space access.now.user access.now.address ≡ None }
-    ensures value { store_block M.space regs.old (M.bytes mem.old) psr list access.now ≡ record { event = result; regs = regs.new; bytes = M.bytes mem.new } }
-    ensures valid { IsValidRegs regs.new }
+    ensures { store_block M.space regs.old (M.bytes mem.old) psr list access.now ≡ record { event = result; regs = regs.new; bytes = M.bytes mem.new } }
 {
     let svc = regs.svc && !psr;
     store_registers(regs, mem, svc, list, access.user, access.address);
-    regs.write_base(access);
+    write_base(regs, access);
     regs.advance();
     CpuEvent::Ran
 }
 
 /// Loads the base and the registers below R15 of a list.
 fn load_low<M: Memory>(regs: &mut Regs, mem: &M, svc: bool, list: u16, access: &Access)
-    requires valid { IsValidRegs regs.old }
     requires aligned { access.now.address % 4 ≡ 0 }
     requires allowed { refused_word (length (registers_in list)) M.space access.now.user access.now.address ≡ None }
-    ensures value { regs.new ≡ with_low_words M.space regs.old (M.bytes mem.now) svc list access.now }
-    ensures valid { IsValidRegs regs.new }
+    ensures { regs.new ≡ with_low_words M.space regs.old (M.bytes mem.now) svc list access.now }
 {
-    regs.write_base(access);
+    write_base(regs, access);
     load_registers(regs, mem, svc, list, access.user, access.address);
 }
 
@@ -192,16 +185,14 @@ fn load_with_r15<M: Memory>(
     list: u16,
     access: &Access,
 ) -> CpuEvent
-    requires valid { IsValidRegs regs.old }
     requires aligned { access.now.address % 4 ≡ 0 }
     requires listed { bit list 15 ≡ true }
     requires allowed { refused_word (length (registers_in list)) M.space access.now.user access.now.address ≡ None }
-    ensures value { load_with_r15 M.space regs.old (M.bytes mem.now) psr list access.now ≡ record { event = result; regs = regs.new } }
-    ensures valid { IsValidRegs regs.new }
+    ensures { load_with_r15 M.space regs.old (M.bytes mem.now) psr list access.now ≡ record { event = result; regs = regs.new } }
 {
     let value = last_word(mem, list, access);
     if psr && !regs.takes_psr(value) {
-        return regs.trap(Trap::Unpredictable);
+        return trap(regs, Trap::Unpredictable);
     }
     load_low(regs, mem, regs.svc, list, access);
     if psr {
@@ -220,11 +211,9 @@ fn load_block<M: Memory>(
     list: u16,
     access: &Access,
 ) -> CpuEvent
-    requires valid { IsValidRegs regs.old }
     requires aligned { access.now.address % 4 ≡ 0 }
     requires allowed { refused_word (length (registers_in list)) M.space access.now.user access.now.address ≡ None }
-    ensures value { load_block M.space regs.old (M.bytes mem.now) psr list access.now ≡ record { event = result; regs = regs.new } }
-    ensures valid { IsValidRegs regs.new }
+    ensures { load_block M.space regs.old (M.bytes mem.now) psr list access.now ≡ record { event = result; regs = regs.new } }
 {
     if is_listed(list, R15) {
         return load_with_r15(regs, mem, psr, list, access);
@@ -235,7 +224,7 @@ fn load_block<M: Memory>(
 }
 
 #[tactic(auto, unfolding(crate::specs::Block::block_step))]
-/// Carries out LDM where `load`, else STM.
+/// Executes LDM where `load`, else STM.
 pub(crate) fn transfer_block<M: Memory>(
     regs: &mut Regs,
     mem: &mut M,
@@ -244,13 +233,11 @@ pub(crate) fn transfer_block<M: Memory>(
     list: u16,
     access: &Access,
 ) -> CpuEvent
-    requires valid { IsValidRegs regs.old }
-    requires aligned { access.now.address % 4 ≡ 0 }
-    ensures value { block_step M.space regs.old (M.bytes mem.old) psr load list access.now ≡ record { event = result; regs = regs.new; bytes = M.bytes mem.new } }
-    ensures valid { IsValidRegs regs.new }
+    requires { access.now.address % 4 ≡ 0 }
+    ensures { block_step M.space regs.old (M.bytes mem.old) psr load list access.now ≡ record { event = result; regs = regs.new; bytes = M.bytes mem.new } }
 {
     match first_refused(mem, access.user, access.address, count_of(list)) {
-        Some(at) => regs.data_trap(at),
+        Some(at) => data_trap(regs, at),
         None => {
             if load {
                 load_block(regs, mem, psr, list, access)

@@ -1,3 +1,4 @@
+//! What the processor asks of a memory.
 ghost use Rattle.std.specs.Prelude.{◌≡◌, ℕ, ◌%◌, Bool, List, length};
 ghost use Rattle.arm2_cpu.specs.Memory.{Space, IsLawful, read_word, read_byte, wrote_word, wrote_byte};
 

@@ -1,10 +1,9 @@
+//! MUL and MLA.
 ghost use Rattle.std.specs.Prelude.{◌≡◌};
 ghost use Rattle.arm2_cpu.specs.Multiply.{product, multiplied, multiply_step};
-ghost use Rattle.arm2_cpu.specs.Registers.{IsValidRegs};
 
 use crate::event::CpuEvent;
-use crate::operations::Computed;
-use crate::regs::Regs;
+use arm2_alu::{Computed, Regs};
 
 #[tactic(auto, using(crate::proofs::ProductLaws::product_laws), unfolding(crate::specs::Multiply::product))]
 fn product(regs: &Regs, acc: bool, rn: u8, rs: u8, rm: u8) -> u32
@@ -17,9 +16,7 @@ fn product(regs: &Regs, acc: bool, rn: u8, rs: u8, rm: u8) -> u32
 
 #[tactic(auto, unfolding(crate::specs::Multiply::multiplied))]
 fn set_product(regs: &mut Regs, s: bool, rd: u8, value: u32)
-    requires { IsValidRegs regs.old }
-    ensures value { regs.new ≡ multiplied regs.old s rd value }
-    ensures valid { IsValidRegs regs.new }
+    ensures { regs.new ≡ multiplied regs.old s rd value }
 {
     if s {
         let outcome = Computed {
@@ -34,7 +31,7 @@ fn set_product(regs: &mut Regs, s: bool, rd: u8, value: u32)
 }
 
 #[tactic(auto, unfolding(crate::specs::Multiply::multiply_step))]
-/// Carries out MUL, or MLA where `acc`.
+/// Executes MUL, or MLA where `acc`.
 pub(crate) fn multiply(
     regs: &mut Regs,
     acc: bool,
@@ -44,9 +41,7 @@ pub(crate) fn multiply(
     rs: u8,
     rm: u8,
 ) -> CpuEvent
-    requires { IsValidRegs regs.old }
-    ensures value { multiply_step regs.old acc s rd rn rs rm ≡ record { event = result; regs = regs.new } }
-    ensures valid { IsValidRegs regs.new }
+    ensures { multiply_step regs.old acc s rd rn rs rm ≡ record { event = result; regs = regs.new } }
 {
     let value = product(regs, acc, rn, rs, rm);
     set_product(regs, s, rd, value);

@@ -2,3 +2,4 @@ pub mod Memory
 pub mod Images
 mod Outputs
 pub mod StepLaws
+mod Stretches

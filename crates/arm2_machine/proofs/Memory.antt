@@ -5,10 +5,9 @@ use Rattle.bv_base.specs.Limits.{image_words}
 use Rattle.bv_base.specs.MemoryMap.{ram_end, arena_start, arena_end, arena_bytes, image_start}
 use Rattle.bv_base.specs.Bytes.{zeros}
 use Rattle.bv_base.proofs.Zeros.{length-zeros, zeros-add}
-use Rattle.bv_base.specs.Words.{put_at, word_at as bytes_word}
 use Rattle.bv_base.proofs.Words.{word_from_bytes, length-flat_map-word_bytes}
-use Rattle.arm2_cpu.specs.Memory.{byte_at, word_at, with_bytes, read_word}
-use Rattle.bv_base.specs.Words.{word_bytes, AreWords}
+use Rattle.arm2_cpu.specs.Memory.{read_word}
+use Rattle.bv_base.specs.Words.{word_bytes, word_at, put_at, AreWords}
 use Rattle.arm2_machine.specs.Machine.{board_space, fetched, loaded_ram, arena_of}
 
 lengths : (start more rest : ℕ) (words : List ℕ) → length words ≤ more → rest ≡ 4 * more - 4 * length words → length (zeros start ++ (flat_map word_bytes words ++ zeros rest)) ≡ start + 4 * more
@@ -81,33 +80,19 @@ slice_index-append front back a k is = grind (arith, common_steps)
 allowed : (a : ℕ) → a < ram_end → board_space.allows false a ≡ true
 allowed a inside =
     let low : nat_le 0 a ≡ true = le-leb 0 a (omega arith) in
-    let high : nat_lt a (0 + ram_end) ≡ true = lt-ltb a ram_end inside in
+    let high : nat_lt a ram_end ≡ true = lt-ltb a ram_end inside in
     (λ i. low i && high i)
 
 -- the RAM begins at address 0
-byte_here : (ram : List ℕ) (a : ℕ) → byte_at board_space ram a ≡ slice_index ram a
-unfolding byte_at
-byte_here ram a = ap (slice_index ram) (let e : a - 0 ≡ a = omega arith in e)
-
-word_here : (ram : List ℕ) (a : ℕ) → word_at board_space ram a ≡ slice_index ram a + slice_index ram (a + 1) * 256 + slice_index ram (a + 2) * 65536 + slice_index ram (a + 3) * 16777216
+word_here : (ram : List ℕ) (a : ℕ) → word_at ram (a - 0) ≡ slice_index ram a + slice_index ram (a + 1) * 2 ^ 8 + slice_index ram (a + 2) * 2 ^ 16 + slice_index ram (a + 3) * 2 ^ 24
 unfolding word_at
-word_here ram a = λ i. byte_here ram a i + byte_here ram (a + 1) i * 256 + byte_here ram (a + 2) i * 65536 + byte_here ram (a + 3) i * 16777216
+word_here ram a =
+    let here : a - 0 ≡ a = omega arith in
+    (λ i. slice_index ram (here i) + slice_index ram (here i + 1) * 2 ^ 8 + slice_index ram (here i + 2) * 2 ^ 16 + slice_index ram (here i + 3) * 2 ^ 24)
 
--- a word of the processor's memory is that of its four bytes
-pub same_word : (ram : List ℕ) (a : ℕ) → word_at board_space ram a ≡ bytes_word ram a
-unfolding bytes_word
-same_word ram a = word_here ram a
-
--- bytes that are put in the RAM
-pub same_put : (ram : List ℕ) (a : ℕ) (new : List ℕ) → with_bytes board_space ram a new ≡ put_at ram a new
-unfolding with_bytes put_at
-same_put ram a new =
-    let e : a - 0 ≡ a = omega arith in
-    (λ i. take (e i) ram ++ new ++ drop (e i + length new) ram)
-
-fetched-is : (ram : List ℕ) (a : ℕ) → a < ram_end → fetched ram a ≡ Some (word_at board_space ram a)
+fetched-is : (ram : List ℕ) (a : ℕ) → a < ram_end → fetched ram a ≡ Some (word_at ram (a - 0))
 unfolding read_word
-fetched-is ram a inside = ap (λ b. if b then Some (word_at board_space ram a) else None) (allowed a inside)
+fetched-is ram a inside = ap (λ b. if b then Some (word_at ram (a - 0)) else None) (allowed a inside)
 
 -- a word is fetched where its bytes stand
 fetched_at : (front back : List ℕ) (a w : ℕ) → length front ≡ a → a < ram_end → w < 2 ^ 32 → fetched (front ++ (word_bytes w ++ back)) a ≡ Some w

@@ -8,13 +8,13 @@ use Rattle.arm_isa.specs.Words.{means, word_of}
 use Rattle.arm_isa.proofs.ImmediateLaws.{immediate_value-byte}
 use Rattle.arm_isa.proofs.RoundTrip.{means_at}
 use Rattle.arm_isa.proofs.ValidLaws.{valid-data_immediate, valid-swi}
-use Rattle.arm2_cpu.specs.declared.operations.TheConstants.{MOV}
-use Rattle.arm2_cpu.specs.declared.regs.Regs.{Regs}
+use Rattle.arm_isa.specs.Numbers.{MOV}
+use Rattle.arm2_alu.specs.declared.regs.Regs.{Regs}
 use Rattle.arm2_cpu.specs.Memory.{read_word}
 use Rattle.arm2_cpu.specs.Outcomes.{Stepped}
-use Rattle.arm2_cpu.specs.Registers.{at_next, with_banked}
+use Rattle.arm2_alu.specs.Registers.{at_next, with_banked}
 use Rattle.arm2_cpu.specs.Step.{cpu_step}
-use Rattle.arm2_cpu.proofs.RegisterLaws.{holds-always}
+use Rattle.arm2_alu.proofs.RegisterLaws.{holds-always}
 use Rattle.arm2_cpu.proofs.StepBasics.{Fetches}
 use Rattle.arm2_cpu.proofs.StepLaws.{step-mov_immediate, step-swi}
 use Rattle.bv_base.specs.MemoryMap.{pad, return_entry}

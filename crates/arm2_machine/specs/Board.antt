@@ -1,11 +1,10 @@
 -- The board: a machine with the count of its steps, and what a run of it says.
-use Rattle.std.specs.Prelude.{◌≡◌, ℕ, ◌+◌, ◌-◌, ◌^◌, ◌<◌, min, Option, Bool, true, false, List, [], refl}
-use Rattle.std.specs.Coded.{Coded, code_by, coded×, coded_ℕ, coded_bool}
+use Rattle.std.specs.Prelude.{◌≡◌, ℕ, ◌+◌, ◌-◌, ◌^◌, ◌<◌, min, Option, Bool, true, false, List, []}
 use Rattle.bv_run.specs.declared.report.RunEnd.{RunEnd}
 use Rattle.bv_run.specs.declared.report.RunEnd.TheVariants as ends
 use Rattle.bv_run.specs.Runs.{Goes, End, Over, Broken, Progress, Going, Ended, run}
 use Rattle.bv_io.specs.Sink.{with_bytes, WritesPart}
-use Rattle.arm2_machine.specs.Machine.{Machine, machine_code}
+use Rattle.arm2_machine.specs.Machine.{Machine}
 use Rattle.arm2_machine.specs.Step.{board_step}
 
 -- a board as its callers see it: its machine, the number of instructions made, and whether its run has ended
@@ -13,14 +12,6 @@ pub record BoardState : Type 0 where
   pub machine : Machine
   pub steps : ℕ
   pub closed : Bool
-
--- a board is stored as the tuple of its parts
-abbrev pub board_code : Coded BoardState
-board_code =
-    code_by (Machine × (ℕ × Bool)) (coded× machine_code (coded× coded_ℕ coded_bool))
-    (λ b. (b.machine, (b.steps, b.closed)))
-    (λ p. record { machine = p.0; steps = p.1.0; closed = p.1.1 })
-    (λ _. refl)
 
 -- a run by its answer, the state that it leaves, and what it wrote
 abbrev pub progress_of : RunEnd → Machine → List ℕ → Progress Machine End

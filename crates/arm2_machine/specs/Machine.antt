@@ -1,17 +1,15 @@
 -- The board's machine: its state, its start, and what it does at a trap. This project's own, but for the registers, which
 -- are the ARM2's.
-use Rattle.std.specs.Prelude.{ℕ, ◌-◌, ◌*◌, Bool, true, false, if◌then◌else◌, List, [], ◌++◌, length, take, drop, flat_map, replicate, slice_set, Option, refl}
-use Rattle.std.specs.Coded.{Coded, code_by, coded×, coded_ℕ, coded_bool, coded_list}
+use Rattle.std.specs.Prelude.{ℕ, ◌-◌, ◌*◌, true, false, if◌then◌else◌, List, [], ◌++◌, length, take, drop, flat_map, replicate, slice_set, Option, refl}
 use Rattle.std.proofs.Common.{lit≤}
 use Rattle.bv_base.specs.MemoryMap.{arena_start, arena_end, arena_bytes}
 use Rattle.bv_run.specs.declared.report.Trap.{Trap}
 use Rattle.bv_run.specs.declared.report.Trap.TheVariants as traps
 use Rattle.bv_base.specs.Bytes.{zeros}
 use Rattle.bv_run.specs.Runs.{Turn, Goes, Ends, End, Broken}
-use Rattle.arm2_cpu.specs.declared.regs.Regs.{Regs}
-use Rattle.arm2_cpu.specs.Memory.{Space, IsLawful, read_word}
-use Rattle.arm2_cpu.specs.Window.{window}
-use Rattle.arm2_cpu.specs.WindowLaws.{window-lawful}
+use Rattle.arm2_alu.specs.declared.regs.Regs.{Regs}
+use Rattle.arm2_cpu.specs.Memory.{Space, read_word}
+use Rattle.arm2_memory.specs.Window.{window, IsPlace}
 use Rattle.bv_base.specs.MemoryMap.{ram_end, image_start, trap_entry}
 use Rattle.arm2_machine.specs.Reports.{trap_number}
 use Rattle.bv_base.specs.Words.{word_bytes}
@@ -20,8 +18,9 @@ use Rattle.bv_base.specs.Words.{word_bytes}
 abbrev pub board_space : Space
 board_space = window 0 ram_end arena_start arena_end
 
-pub board_space-lawful : IsLawful board_space
-board_space-lawful = window-lawful 0 ram_end arena_start arena_end refl refl refl refl (lit≤ tt) (lit≤ tt)
+-- the arena lies in the RAM
+pub board_place : IsPlace 0 ram_end arena_start arena_end
+board_place = record { start_aligned = refl; end_aligned = refl; low_aligned = refl; high_aligned = refl; begins = lit≤ tt; ordered = lit≤ tt; ends = lit≤ tt }
 
 -- the word that the supervisor fetches at an address
 abbrev pub fetched : List ℕ → ℕ → Option ℕ
@@ -32,22 +31,6 @@ pub record Machine : Type 0 where
   pub regs : Regs
   pub ram : List ℕ
   pub input : List ℕ
-
--- registers are stored as the tuple of their parts
-abbrev pub regs_code : Coded Regs
-regs_code =
-    code_by (List ℕ × (ℕ × (ℕ × (ℕ × (ℕ × (ℕ × (ℕ × Bool))))))) (coded× (coded_list coded_ℕ) (coded× coded_ℕ (coded× coded_ℕ (coded× coded_ℕ (coded× coded_ℕ (coded× coded_ℕ (coded× coded_ℕ coded_bool)))))))
-    (λ r. (r.low, (r.user13, (r.user14, (r.svc13, (r.svc14, (r.pc, (r.psr, r.svc))))))))
-    (λ p. record { low = p.0; user13 = p.1.0; user14 = p.1.1.0; svc13 = p.1.1.1.0; svc14 = p.1.1.1.1.0; pc = p.1.1.1.1.1.0; psr = p.1.1.1.1.1.1.0; svc = p.1.1.1.1.1.1.1 })
-    (λ _. refl)
-
--- a machine is stored as the tuple of its parts
-abbrev pub machine_code : Coded Machine
-machine_code =
-    code_by (Regs × (List ℕ × List ℕ)) (coded× regs_code (coded× (coded_list coded_ℕ) (coded_list coded_ℕ)))
-    (λ m. (m.regs, (m.ram, m.input)))
-    (λ p. record { regs = p.0; ram = p.1.0; input = p.1.1 })
-    (λ _. refl)
 
 -- The memory with these words from an image's place on, and 0 elsewhere. It stays closed, so that no proof counts
 -- through a memory.

@@ -4,7 +4,7 @@ use Rattle.bv_run.specs.Outcome.{Outcome}
 use Rattle.bv_run.specs.Runs.{Turn, Goes, Ends, End, Over, Broken, run, outcome_of}
 use Rattle.arm2_cpu.specs.declared.event.CpuEvent.{CpuEvent}
 use Rattle.arm2_cpu.specs.declared.event.CpuEvent.TheVariants as events
-use Rattle.arm2_cpu.specs.declared.regs.Regs.{Regs}
+use Rattle.arm2_alu.specs.declared.regs.Regs.{Regs}
 use Rattle.arm2_cpu.specs.Outcomes.{Stepped}
 use Rattle.arm2_cpu.specs.Step.{cpu_step}
 use Rattle.bv_base.specs.MemoryMap.{pad, return_entry}

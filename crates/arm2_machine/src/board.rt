@@ -1,5 +1,6 @@
 //! The board: a machine that counts its steps and writes what they write to a sink.
 ghost use Rattle.std.specs.Prelude.{◌≡◌, ◌+◌, ◌-◌, ◌^◌, ◌≤◌, min, [], false, true, length, IfOk, OnOk, OnErr};
+ghost use Rattle.bv_base.specs.Limits.{image_words};
 ghost use Rattle.bv_run.specs.Runs.{run, steps_made, output_so_far};
 ghost use Rattle.bv_io.specs.Shelf.{Rose};
 ghost use Rattle.bv_io.specs.Sink.{with_bytes, WritesPart};
@@ -8,7 +9,7 @@ ghost use Rattle.arm2_machine.specs.Step.{board_step, bytes_of};
 
 use crate::machine::Machine;
 use crate::step::{Output, StepOutcome};
-use bv_base::{IMAGE_WORDS, NoMemory};
+use bv_base::NoMemory;
 use bv_io::{Sink, SinkFault};
 use bv_run::RunEnd;
 use std::alloc::Global;
@@ -24,11 +25,9 @@ pub struct Board {
 }
 
 impl Model for Board {
-    ghost use Rattle.arm2_machine.specs.Board.{BoardState, board_code};
+    ghost use Rattle.arm2_machine.specs.Board.{BoardState};
 
     ghost Value = { BoardState };
-
-    ghost coded = { board_code };
 
     ghost view = { λ b. record { machine = b.machine; steps = b.steps; closed = b.closed } };
 }
@@ -56,7 +55,7 @@ impl Board {
 
     /// The board at the start of an image of at most `IMAGE_WORDS` words, with this input.
     pub fn load(alloc: Global, words: &[u32], input: Vec<u8>) -> Result<Board, NoMemory>
-        requires { length words.now ≤ IMAGE_WORDS }
+        requires { length words.now ≤ image_words }
         ensures { IfOk result (λ board. board ≡ record { machine = loaded words.now input.items; steps = 0; closed = false }) }
     {
         let machine = Machine::load(alloc, words, input)?;
@@ -117,20 +116,23 @@ impl Board {
         ensures cause { OnErr result (Rose (O.faults out.old) (O.faults out.new)) }
         ensures faults { O.faults out.old ≤ O.faults out.new }
     {
-        'steps: for made in 0..bound {
-            match self.machine.step() {
+        let mut made = 0;
+        'steps: while made < bound {
+            let stretch = self.machine.advance(bound - made);
+            made += stretch.before + 1;
+            match self.machine.follow(stretch.at, stretch.event) {
                 StepOutcome::Continued(output) => {
                     if let Err(fault) = write(out, output) {
-                        self.note(made + 1, true);
+                        self.note(made, true);
                         return Err(fault);
                     }
                 }
                 StepOutcome::Over(report) => {
-                    self.note(made + 1, true);
+                    self.note(made, true);
                     return Ok(RunEnd::Over(report));
                 }
                 StepOutcome::Broken { kind, address } => {
-                    self.note(made + 1, true);
+                    self.note(made, true);
                     return Ok(RunEnd::Broken { kind, address });
                 }
             }

@@ -1,5 +1,6 @@
 ghost use Rattle.std.specs.Prelude.{◌≡◌, ◌≤◌, ◌<◌, ◌↔◌, IsTrue, length, slice_get, IfOk, IfErr};
 ghost use Rattle.arm2_machine.specs.Image.{magic, ImageOf, HasOneImage, ExplainsImage, MagicEnds, IsWhole};
+ghost use Rattle.bv_base.specs.Limits.{image_words};
 ghost use Rattle.bv_base.specs.Words.{AreWords};
 
 use crate::words::{push_word, push_words};
@@ -49,7 +50,7 @@ impl<T: Drop> From<AllocFailed<T>> for ImageError {
 
 /// The image file of these words, of which there are at most `IMAGE_WORDS`. Reading it gives the same words.
 pub fn write_image(alloc: Global, words: &[u32]) -> Result<Vec<u8>, NoMemory>
-    requires { length words.now ≤ IMAGE_WORDS }
+    requires { length words.now ≤ image_words }
     ensures image { IfOk result (λ bytes. ImageOf bytes.items words.now) }
     ensures reading { IfOk result (λ bytes. HasOneImage bytes.items words.now) }
 {

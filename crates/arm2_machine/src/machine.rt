@@ -1,13 +1,15 @@
 //! The board's machine: the processor with the board's RAM, and the input that is left. What it does at a trap is here; its
 //! calls are in `swi`, and a step of it is in `step`.
-ghost use Rattle.std.specs.Prelude.{◌≡◌, ◌%◌, ◌<◌, ◌≤◌, length, IfOk};
+ghost use Rattle.std.specs.Prelude.{◌≡◌, ◌%◌, ◌^◌, ◌<◌, ◌≤◌, length, IfOk};
+ghost use Rattle.bv_base.specs.Limits.{image_words};
 
 use crate::input::Input;
-use crate::ram::BoardRam;
+use crate::ram::{self, BoardPlace};
 use crate::reports;
 use crate::step::{Output, StepOutcome};
-use arm2_cpu::{PC_END, Regs};
-use bv_base::{IMAGE_START, IMAGE_WORDS, NoMemory, TRAP_ENTRY};
+use arm2_cpu::{Pc, Regs};
+use arm2_memory::Window;
+use bv_base::{IMAGE_START, NoMemory, TRAP_ENTRY};
 use bv_run::Trap;
 use std::alloc::Global;
 use std::marker::Model;
@@ -16,34 +18,17 @@ use std::marker::Model;
 #[derive(Drop)]
 pub struct Machine {
     pub(crate) regs: Regs,
-    pub(crate) ram: BoardRam,
+    pub(crate) ram: Window<BoardPlace>,
     pub(crate) input: Input,
 }
 
 impl Model for Machine {
-    ghost use Rattle.arm2_cpu.specs.Registers.{IsValidRegs};
     ghost use Rattle.arm2_machine.specs.Machine as machine;
 
     ghost Value = { machine.Machine };
 
-    ghost coded = { machine.machine_code };
-
     ghost view = { λ m. record { regs = m.regs; ram = m.ram; input = m.input } };
-
-    ghost invariant = { λ m. IsValidRegs m.regs };
 }
-
-/// The registers at the start of a run: all 0, no flag set, in supervisor mode at the image's first word.
-const FIRST_REGS: Regs = Regs {
-    low: [0; 13],
-    user13: 0,
-    user14: 0,
-    svc13: 0,
-    svc14: 0,
-    pc: IMAGE_START,
-    psr: 0,
-    svc: true,
-};
 
 impl Machine {
     ghost use Rattle.arm2_machine.specs.Machine.{arena_of, loaded, entered, refused, trapped};
@@ -51,12 +36,12 @@ impl Machine {
 
     /// The machine at the start of an image of at most `IMAGE_WORDS` words, with this input.
     pub fn load(alloc: Global, words: &[u32], input: Vec<u8>) -> Result<Machine, NoMemory>
-        requires { length words.now ≤ IMAGE_WORDS }
+        requires { length words.now ≤ image_words }
         ensures { IfOk result (λ machine. machine ≡ loaded words.now input.items) }
     {
-        let ram = BoardRam::load(alloc, words)?;
+        let ram = ram::load_ram(alloc, words)?;
         Ok(Machine {
-            regs: FIRST_REGS,
+            regs: Regs::starting_at(Pc::of(IMAGE_START)),
             ram,
             input: Input::new(input),
         })
@@ -66,17 +51,17 @@ impl Machine {
     pub fn arena(&self) -> &[u8]
         ensures { result.now ≡ arena_of self.now.ram }
     {
-        self.ram.arena()
+        ram::arena(&self.ram)
     }
 
     /// Goes to the supervisor, at an entry.
     pub(crate) fn enter(&mut self, entry: u32)
         requires aligned { entry % 4 ≡ 0 }
-        requires within { entry < PC_END }
+        requires within { entry < 2 ^ 26 }
         ensures { self.new ≡ record self.old { regs = entered self.old.regs entry } }
     {
         self.regs.svc = true;
-        self.regs.pc = entry;
+        self.regs.pc = Pc::of(entry);
     }
 
     /// Takes a trap: user mode goes to the supervisor, and the supervisor breaks the run.
@@ -93,12 +78,10 @@ impl Machine {
     }
 
     /// Takes the trap of a call that isn't there, whose instruction stands at the address.
-    pub(crate) fn refuse(&mut self, at: u32) -> StepOutcome
-        requires aligned { at % 4 ≡ 0 }
-        requires within { at < PC_END }
+    pub(crate) fn refuse(&mut self, at: Pc) -> StepOutcome
         ensures { refused self.old at ≡ turn_of result self.new }
     {
         self.regs.pc = at;
-        self.trap(Trap::Swi, at)
+        self.trap(Trap::Swi, at.address())
     }
 }

@@ -1,10 +1,10 @@
 //! The calls of the board, which are software interrupts. A new call goes here, and its number beside the others.
-ghost use Rattle.std.specs.Prelude.{◌≡◌, ◌%◌, ◌<◌};
+ghost use Rattle.std.specs.Prelude.{◌≡◌};
 
 use crate::machine::Machine;
 use crate::reports;
 use crate::step::{Output, StepOutcome};
-use arm2_cpu::PC_END;
+use arm2_cpu::Pc;
 use bv_run::Report;
 
 /// The software interrupt that writes the low byte of R0.
@@ -37,9 +37,7 @@ impl Machine {
     }
 
     /// Ends with a report, if there is one.
-    fn end(&mut self, at: u32, report: Option<Report>) -> StepOutcome
-        requires aligned { at % 4 ≡ 0 }
-        requires within { at < PC_END }
+    fn end(&mut self, at: Pc, report: Option<Report>) -> StepOutcome
         ensures { reported self.old at report ≡ turn_of result self.new }
     {
         match report {
@@ -49,9 +47,7 @@ impl Machine {
     }
 
     /// Carries out a call that user mode alone has.
-    fn call_of_user(&mut self, at: u32, number: u32) -> StepOutcome
-        requires aligned { at % 4 ≡ 0 }
-        requires within { at < PC_END }
+    fn call_of_user(&mut self, at: Pc, number: u32) -> StepOutcome
         ensures { called_by_user self.old at number ≡ turn_of result self.new }
     {
         if (SWI_CHARACTER..SWI_CHARACTER + 256).contains(&number) {
@@ -62,9 +58,7 @@ impl Machine {
     }
 
     /// Carries out the call with a number, whose instruction stands at the address.
-    pub(crate) fn call(&mut self, at: u32, number: u32) -> StepOutcome
-        requires aligned { at % 4 ≡ 0 }
-        requires within { at < PC_END }
+    pub(crate) fn call(&mut self, at: Pc, number: u32) -> StepOutcome
         ensures { called self.old at number ≡ turn_of result self.new }
     {
         match number {

@@ -1,7 +1,7 @@
 ghost use Rattle.std.specs.Prelude.{◌≡◌, ◌≤◌, ◌++◌, length, flat_map, IfOk, OnOk};
+ghost use Rattle.bv_base.specs.Limits.{image_words};
 ghost use Rattle.bv_base.specs.Words.{word_bytes};
 
-use bv_base::IMAGE_WORDS;
 use byteorder::{ByteOrder, LittleEndian};
 use std::alloc::{AllocError, Global};
 
@@ -26,7 +26,7 @@ pub fn push_words(bytes: &mut Vec<u8>, words: &[u32]) -> Result<(), AllocError>
 
 /// The bytes of at most `IMAGE_WORDS` words, one word after the other.
 pub fn words_to_bytes(alloc: Global, words: &[u32]) -> Result<Vec<u8>, AllocError>
-    requires { length words.now ≤ IMAGE_WORDS }
+    requires { length words.now ≤ image_words }
     ensures { IfOk result (λ bytes. bytes.items ≡ flat_map word_bytes words.now) }
 {
     let mut bytes = Vec::with_capacity(alloc, 4 * words.len())?;

@@ -1,8 +1,7 @@
-ghost use Rattle.arm2_cpu.specs.Registers.{IsValidRegs};
-
+//! A step as a line tells it.
 use crate::fields::{Fields, decimal, hexadecimal};
 use crate::words::{Words, words_of};
-use arm2_cpu::{CpuEvent, Regs};
+use arm2_cpu::{CpuEvent, Pc, Psr, Regs};
 use bv_run::Trap;
 
 /// How many registers both modes share, R0 to R12.
@@ -21,11 +20,10 @@ pub struct Case {
     pub words: Words,
     /// What the step comes to.
     pub event: CpuEvent,
-    /// The registers behind the step.
+    /// The registers after the step.
     pub after: Regs,
     /// Words of memory that the step writes.
     pub written: Words,
-    ghost valid: { IsValidRegs before },
 }
 
 /// Whether a mode's name is that of supervisor mode.
@@ -35,6 +33,23 @@ fn is_supervisor(name: &str) -> Option<bool> {
         "s" => Some(true),
         _ => None,
     }
+}
+
+/// The PC at an address, if that is one.
+fn pc_of(address: u32) -> Option<Pc> {
+    let pc = Pc::of(address);
+    if pc.address() == address {
+        Some(pc)
+    } else {
+        None
+    }
+}
+
+/// The flags of a number, if it is one of six bits.
+fn psr_of(number: u32) -> Option<Psr> {
+    let bits = u8::try_from(number).ok()?;
+    let psr = Psr::of(bits);
+    if psr.bits() == bits { Some(psr) } else { None }
 }
 
 /// R0 to R12.
@@ -47,7 +62,7 @@ fn low_registers(fields: &mut Fields<'_>) -> Option<[u32; LOW_REGISTERS]> {
 }
 
 /// The mode, the PC and the flags, with the registers of the next 17 fields.
-fn registers(svc: bool, pc: u32, psr: u8, fields: &mut Fields<'_>) -> Option<Regs> {
+fn registers(svc: bool, pc: Pc, psr: Psr, fields: &mut Fields<'_>) -> Option<Regs> {
     Some(Regs {
         low: low_registers(fields)?,
         user13: fields.hexadecimal()?,
@@ -79,8 +94,8 @@ fn change(regs: &mut Regs, text: &str) -> Option<()> {
         "u14" => regs.user14 = number,
         "s13" => regs.svc13 = number,
         "s14" => regs.svc14 = number,
-        "pc" => regs.pc = number,
-        "psr" => regs.psr = u8::try_from(number).ok()?,
+        "pc" => regs.pc = pc_of(number)?,
+        "psr" => regs.psr = psr_of(number)?,
         _ => change_low(regs, name, number)?,
     }
     Some(())
@@ -137,8 +152,8 @@ pub fn parse(line: &str) -> Option<Case> {
     let _class = fields.next()?;
     let svc = is_supervisor(fields.next()?)?;
     let end = fields.hexadecimal()?;
-    let pc = fields.hexadecimal()?;
-    let psr = u8::try_from(fields.hexadecimal()?).ok()?;
+    let pc = pc_of(fields.hexadecimal()?)?;
+    let psr = psr_of(fields.hexadecimal()?)?;
     let word = fields.hexadecimal()?;
     let before = registers(svc, pc, psr, &mut fields)?;
     let words = words_of(fields.next()?)?;
@@ -146,7 +161,7 @@ pub fn parse(line: &str) -> Option<Case> {
     let after = changed(&before, fields.next()?)?;
     let written = words_of(fields.next()?)?;
     let _mark = fields.next()?;
-    if !before.is_valid() || !fields.is_empty() {
+    if !fields.is_empty() {
         return None;
     }
     Some(Case {

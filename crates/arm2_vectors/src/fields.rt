@@ -1,9 +1,10 @@
+//! The fields of a line, and the numbers in them.
 ghost use Rattle.std.specs.Prelude.{◌≡◌, ◌≤◌};
 
 /// The fields of a line, which single spaces divide.
 #[derive(Clone, Copy)]
 pub struct Fields<'a> {
-    /// What is left of the line, or `None` behind the last field.
+    /// What is left of the line, or `None` after the last field.
     rest: Option<&'a str>,
 }
 
@@ -13,7 +14,7 @@ impl<'a> Fields<'a> {
         Fields { rest: Some(line) }
     }
 
-    /// The next field, or `None` behind the last, and where it is empty.
+    /// The next field, or `None` after the last, and where it is empty.
     pub fn next(&mut self) -> Option<&'a str> {
         let rest = self.rest?;
         let (field, others) = match rest.split_once(' ') {

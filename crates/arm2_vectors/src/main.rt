@@ -18,8 +18,9 @@ mod ram;
 mod words;
 
 use arm2_cpu::step_cpu;
+use arm2_memory::Place;
 use case::{Case, parse};
-use ram::{LARGE_END, Large, RamEnd, SMALL_END, Small, StepRam};
+use ram::{Large, Small, StepRam};
 use std::io;
 use std::io::{BufRead, BufReader};
 use words::Word;
@@ -32,14 +33,14 @@ enum Verdict {
 }
 
 /// Stores the words of a memory before a step. `false` where the memory has no such word.
-fn set_up<E: RamEnd>(ram: &mut StepRam<E>, case: &Case) -> bool {
+fn set_up<P: Place>(ram: &mut StepRam<P>, case: &Case) -> bool {
     for word in case.words.as_slice() {
         if !ram.store(word.address, word.value) {
             return false;
         }
     }
     match case.code {
-        Some(code) => ram.store(case.before.pc, code),
+        Some(code) => ram.store(case.before.pc.address(), code),
         None => true,
     }
 }
@@ -49,13 +50,13 @@ fn names(words: &[Word], address: u32) -> bool {
     words.iter().any(|word| word.address == address)
 }
 
-/// Whether a word is one of those that were written, and stands in the memory.
-fn stands<E: RamEnd>(ram: &StepRam<E>, written: &[u32], word: &Word) -> bool {
+/// Whether a word is one of those that were written, and is in the memory.
+fn stands<P: Place>(ram: &StepRam<P>, written: &[u32], word: &Word) -> bool {
     written.contains(&word.address) && ram.load(word.address) == Some(word.value)
 }
 
 /// Whether the processor wrote the words that are told, and no other.
-fn wrote_as_told<E: RamEnd>(ram: &StepRam<E>, told: &[Word]) -> bool {
+fn wrote_as_told<P: Place>(ram: &StepRam<P>, told: &[Word]) -> bool {
     match ram.written() {
         Some(written) => {
             written.iter().all(|address| names(told, *address))
@@ -66,8 +67,8 @@ fn wrote_as_told<E: RamEnd>(ram: &StepRam<E>, told: &[Word]) -> bool {
 }
 
 /// Makes the memory one of zeros again, after a step that went as it is told.
-fn clear<E: RamEnd>(ram: &mut StepRam<E>, case: &Case) {
-    ram.store(case.before.pc, 0);
+fn clear<P: Place>(ram: &mut StepRam<P>, case: &Case) {
+    ram.store(case.before.pc.address(), 0);
     for word in case.words.as_slice() {
         ram.store(word.address, 0);
     }
@@ -78,7 +79,7 @@ fn clear<E: RamEnd>(ram: &mut StepRam<E>, case: &Case) {
 }
 
 /// Makes a step in a memory of zeros, which it is again where the step goes as it is told.
-fn judge<E: RamEnd>(case: &Case, ram: &mut StepRam<E>) -> Verdict {
+fn judge<P: Place>(case: &Case, ram: &mut StepRam<P>) -> Verdict {
     if !set_up(ram, case) {
         return Verdict::Unreadable;
     }
@@ -96,8 +97,8 @@ fn judge<E: RamEnd>(case: &Case, ram: &mut StepRam<E>) -> Verdict {
 fn judge_line(line: &str, small: &mut StepRam<Small>, large: &mut StepRam<Large>) -> Verdict {
     match parse(line) {
         Some(case) => match case.end {
-            SMALL_END => judge(&case, small),
-            LARGE_END => judge(&case, large),
+            Small::END => judge(&case, small),
+            Large::END => judge(&case, large),
             _ => Verdict::Unreadable,
         },
         None => Verdict::Unreadable,

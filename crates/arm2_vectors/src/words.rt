@@ -1,3 +1,4 @@
+//! The words of memory that a field lists.
 use crate::fields::hexadecimal;
 use arrayvec::ArrayVec;
 

@@ -1,6 +1,6 @@
 -- The class of a word by its bits.
-use Rattle.std.proofs.Common.{◌≡◌, ◌≢◌, ℕ, zero, suc, ◌<◌, Bool, true, false, ◌==◌, ◌&&◌, if◌then◌else◌, refl, sym, subst, ◌∙◌, arith, eq-eqb, eqb-true}
-use Rattle.std.proofs.lemmas.Bool.{and_parts}
+use Rattle.std.proofs.Common.{◌≡◌, ◌≢◌, ℕ, zero, suc, ◌/◌, ◌%◌, ◌^◌, ◌<◌, Bool, true, false, ◌==◌, ◌&&◌, if◌then◌else◌, refl, sym, subst, ◌∙◌, arith, eq-eqb, eqb-true}
+use Rattle.std.proofs.lemmas.Bool.{and_parts, eqb-false}
 use Rattle.std.proofs.lemmas.Bool.Decides.{eqb_tells}
 use Rattle.std.proofs.Common.{inl, inr}
 use Rattle.arm_isa.specs.declared.classes.Class.{Class}
@@ -22,6 +22,27 @@ class-group_0 w other is =
     let group = eq-eqb (bits w 27 25) 0 is in
     let top = eq-eqb (bits w 27 26) 0 (omega (arith, is)) in
     rw (other, group, top) refl
+
+multiply_bits : (w : ℕ) → is_multiply w ≡ true → (bits w 27 22 ≡ 0) × (bits w 7 4 ≡ 9)
+multiply_bits w is =
+    let both = and_parts (bits w 27 22 == 0) (bits w 7 4 == 9) is in
+    (eqb-true (bits w 27 22) 0 both.0, eqb-true (bits w 7 4) 9 both.1)
+
+-- without bits 7 and 4 such a word is no multiplication
+pub class-group_0_plain : (w : ℕ) → bits w 27 25 ≡ 0 → has_bits_7_and_4 w ≡ false → class_of w ≡ Data
+class-group_0_plain w is plain = cases (is_multiply w) refl
+  where
+    cases : (t : Bool) → is_multiply w ≡ t → class_of w ≡ Data
+    cases true e =
+        let nine = (multiply_bits w e).1 in
+        let seven : bit w 7 ≡ true = eq-eqb (w / 2 ^ 7 % 2) 1 (omega (arith, nine)) in
+        let four : bit w 4 ≡ true = eq-eqb (w / 2 ^ 4 % 2) 1 (omega (arith, nine)) in
+        let both : has_bits_7_and_4 w ≡ true = rw (seven, four) refl in
+        cc
+    cases false e = class-group_0 w e is ∙ rw plain refl
+
+pub class-group_0_set : (w : ℕ) → bits w 27 25 ≡ 0 → has_bits_7_and_4 w ≡ true → is_multiply w ≡ false → class_of w ≡ Undefined
+class-group_0_set w is set other = class-group_0 w other is ∙ rw set refl
 
 pub class-group_1 : (w : ℕ) → bits w 27 25 ≡ 1 → class_of w ≡ Data
 unfolding class_of
@@ -58,6 +79,18 @@ pub class-group_3 : (w : ℕ) → bits w 27 25 ≡ 3 → class_of w ≡ (if bit 
 class-group_3 w is =
     let top = eq-eqb (bits w 27 26) 1 (omega (arith, is)) in
     class-later w (omega (arith, is)) ∙ rw (is, top) refl
+
+-- bits 27 and 26 are 01
+pub class-single : (w : ℕ) → bits w 27 26 ≡ 1 → class_of w ≡ (if bit w 25 && bit w 4 then Undefined else Single)
+class-single w is = cases (bit w 25) refl
+  where
+    cases : (t : Bool) → bit w 25 ≡ t → class_of w ≡ (if bit w 25 && bit w 4 then Undefined else Single)
+    cases true e =
+        let one = eqb-true (w / 2 ^ 25 % 2) 1 e in
+        class-group_3 w (omega (arith, is, one)) ∙ rw e refl
+    cases false e =
+        let zero = eqb-false (w / 2 ^ 25 % 2) 1 e in
+        class-group_2 w (omega (arith, is, zero)) ∙ rw e refl
 
 pub class-group_4 : (w : ℕ) → bits w 27 25 ≡ 4 → class_of w ≡ Block
 class-group_4 w is =
@@ -100,11 +133,6 @@ HasClassBits Undefined w = Unit {0}
 -- bit n is 1
 one_bit : (n : ℕ) → (n == 1) ≡ true → n ≡ 1
 one_bit n is = eqb-true n 1 is
-
-multiply_bits : (w : ℕ) → is_multiply w ≡ true → (bits w 27 22 ≡ 0) × (bits w 7 4 ≡ 9)
-multiply_bits w is =
-    let both = and_parts (bits w 27 22 == 0) (bits w 7 4 == 9) is in
-    (eqb-true (bits w 27 22) 0 both.0, eqb-true (bits w 7 4) 9 both.1)
 
 choose : (P : Class → Type 0) (t : Bool) (a b : Class) → (t ≡ true → P a) → (t ≡ false → P b) → P (if t then a else b)
 choose P true a b left right = left refl

@@ -14,7 +14,7 @@ bits_by_mask w high low k order top is =
     let width : 32 - k ≡ high + 1 - low = omega arith in
     ap (bit_and (w / 2 ^ low)) (ones_shr 32 k (omega arith) ∙ ap (λ n. 2 ^ n - 1) width) ∙ and_mask (w / 2 ^ low) (high + 1 - low)
 
--- the value of a field of a word that is written as a sum: what stands above the field, the field, and what stands below
+-- the value of a field of a word that is written as a sum: what is above the field, the field, and what is below
 pub field_at : (above field below high low : ℕ) → low ≤ high → field < 2 ^ (high + 1 - low) → below < 2 ^ low → bits (above * 2 ^ (high + 1) + field * 2 ^ low + below) high low ≡ field
 field_at above field below high low order fits small =
     let width : ℕ = high + 1 - low in

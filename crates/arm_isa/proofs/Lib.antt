@@ -1,3 +1,4 @@
+-- The laws of words and instructions.
 pub mod FieldLemmas
 pub mod Rotations
 pub mod ClassBits

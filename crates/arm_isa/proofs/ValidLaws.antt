@@ -2,7 +2,6 @@
 use Rattle.std.proofs.Common.{◌≡◌, ℕ, ◌+◌, ◌*◌, ◌%◌, ◌^◌, ◌<◌, Bool, true, false, ◌==◌, ◌&&◌, ℤ, refl, sym, ap, ◌∙◌, arith, eq-eqb, eqb-true, true≢false}
 use Rattle.std.proofs.lemmas.Bool.{and_parts}
 use Rattle.arm_isa.specs.declared.instruction.Instr.TheVariants.{Data, Mul, Single, Block, Branch, Swi}
-use Rattle.arm_isa.specs.declared.instruction.TheConstants.{NIBBLES, OPERANDS, SWI_NUMBERS}
 use Rattle.arm_isa.specs.Fields.{bits, bit, has_bits_7_and_4}
 use Rattle.arm_isa.specs.Table.{is_multiply}
 use Rattle.arm_isa.specs.Words.{word_of, FitsOffset, IsValid}
@@ -10,7 +9,7 @@ use Rattle.arm_isa.proofs.FieldLemmas.{from_bool-lt, offset_field-lt, fits_offse
 use Rattle.arm_isa.proofs.ClassBits.{class-multiply, class-group_0, class-group_1, class-group_2, class-group_3, class-group_4, class-group_5, class-group_7}
 
 -- data processing with an immediate
-pub valid-data_immediate : (cond op rn rd op2 : ℕ) (s : Bool) → cond < NIBBLES → op < NIBBLES → rn < NIBBLES → rd < NIBBLES → op2 < OPERANDS → IsValid (Data cond true op s rn rd op2)
+pub valid-data_immediate : (cond op rn rd op2 : ℕ) (s : Bool) → cond < 2 ^ 4 → op < 2 ^ 4 → rn < 2 ^ 4 → rd < 2 ^ 4 → op2 < 2 ^ 12 → IsValid (Data cond true op s rn rd op2)
 unfolding word_of
 valid-data_immediate cond op rn rd op2 s c o n d p =
     let flag = from_bool-lt s in
@@ -30,7 +29,7 @@ no_multiply w plain = cases (is_multiply w) refl
         absurd (true≢false (sym both ∙ plain))
 
 -- data processing with a register operand, which doesn't have both bits 7 and 4
-pub valid-data_register : (cond op rn rd op2 : ℕ) (s : Bool) → cond < NIBBLES → op < NIBBLES → rn < NIBBLES → rd < NIBBLES → op2 < OPERANDS → has_bits_7_and_4 op2 ≡ false → IsValid (Data cond false op s rn rd op2)
+pub valid-data_register : (cond op rn rd op2 : ℕ) (s : Bool) → cond < 2 ^ 4 → op < 2 ^ 4 → rn < 2 ^ 4 → rd < 2 ^ 4 → op2 < 2 ^ 12 → has_bits_7_and_4 op2 ≡ false → IsValid (Data cond false op s rn rd op2)
 unfolding word_of
 valid-data_register cond op rn rd op2 s c o n d p plain =
     let flag = from_bool-lt s in
@@ -43,8 +42,8 @@ valid-data_register cond op rn rd op2 s c o n d p plain =
       own_class = class-group_0 w (no_multiply w same) (omega (arith, c, o, n, d, p, flag)) ∙ rw same refl;
     }
 
--- data processing with a register, behind the bits of a shift by a number: bit 4 is clear
-pub valid-data_by_number : (cond op rn rd shift rm : ℕ) (s : Bool) → cond < NIBBLES → op < NIBBLES → rn < NIBBLES → rd < NIBBLES → shift % 2 ^ 5 ≡ 0 → shift < OPERANDS → rm < NIBBLES → IsValid (Data cond false op s rn rd (shift + rm))
+-- data processing with a register, after the bits of a shift by a number: bit 4 is clear
+pub valid-data_by_number : (cond op rn rd shift rm : ℕ) (s : Bool) → cond < 2 ^ 4 → op < 2 ^ 4 → rn < 2 ^ 4 → rd < 2 ^ 4 → shift % 2 ^ 5 ≡ 0 → shift < 2 ^ 12 → rm < 2 ^ 4 → IsValid (Data cond false op s rn rd (shift + rm))
 valid-data_by_number cond op rn rd shift rm s c o n d k h m =
     let op2 : ℕ = shift + rm in
     let four : bits op2 4 4 ≡ 0 = omega (arith, k, m) in
@@ -55,8 +54,8 @@ valid-data_by_number cond op rn rd shift rm s c o n d k h m =
     and_false true = refl
     and_false false = refl
 
--- data processing with a register, behind the bits of a shift by a register: bit 7 is clear
-pub valid-data_by_register : (cond op rn rd shift rm : ℕ) (s : Bool) → cond < NIBBLES → op < NIBBLES → rn < NIBBLES → rd < NIBBLES → shift % 2 ^ 4 ≡ 0 → shift % 2 ^ 8 < 2 ^ 7 → shift < OPERANDS → rm < NIBBLES → IsValid (Data cond false op s rn rd (shift + rm))
+-- data processing with a register, after the bits of a shift by a register: bit 7 is clear
+pub valid-data_by_register : (cond op rn rd shift rm : ℕ) (s : Bool) → cond < 2 ^ 4 → op < 2 ^ 4 → rn < 2 ^ 4 → rd < 2 ^ 4 → shift % 2 ^ 4 ≡ 0 → shift % 2 ^ 8 < 2 ^ 7 → shift < 2 ^ 12 → rm < 2 ^ 4 → IsValid (Data cond false op s rn rd (shift + rm))
 valid-data_by_register cond op rn rd shift rm s c o n d k b h m =
     let op2 : ℕ = shift + rm in
     let seven : bits op2 7 7 ≡ 0 = omega (arith, k, b, m) in
@@ -64,24 +63,24 @@ valid-data_by_register cond op rn rd shift rm s c o n d k b h m =
     valid-data_register cond op rn rd op2 s c o n d (omega (arith, k, h, m)) plain
 
 -- data processing with a register that is shifted by a number of bits
-pub valid-data_shift : (cond op rn rd amount kind rm : ℕ) (s : Bool) → cond < NIBBLES → op < NIBBLES → rn < NIBBLES → rd < NIBBLES → amount < 32 → kind < 4 → rm < NIBBLES → IsValid (Data cond false op s rn rd (amount * 2 ^ 7 + kind * 2 ^ 5 + rm))
+pub valid-data_shift : (cond op rn rd amount kind rm : ℕ) (s : Bool) → cond < 2 ^ 4 → op < 2 ^ 4 → rn < 2 ^ 4 → rd < 2 ^ 4 → amount < 32 → kind < 4 → rm < 2 ^ 4 → IsValid (Data cond false op s rn rd (amount * 2 ^ 7 + kind * 2 ^ 5 + rm))
 valid-data_shift cond op rn rd amount kind rm s c o n d a k m =
     valid-data_by_number cond op rn rd (amount * 2 ^ 7 + kind * 2 ^ 5) rm s c o n d (omega arith) (omega (arith, a, k)) m
 
 -- data processing with a register that is shifted by a register
-pub valid-data_shift_by_register : (cond op rn rd rs kind rm : ℕ) (s : Bool) → cond < NIBBLES → op < NIBBLES → rn < NIBBLES → rd < NIBBLES → rs < NIBBLES → kind < 4 → rm < NIBBLES → IsValid (Data cond false op s rn rd (rs * 2 ^ 8 + kind * 2 ^ 5 + 1 * 2 ^ 4 + rm))
+pub valid-data_shift_by_register : (cond op rn rd rs kind rm : ℕ) (s : Bool) → cond < 2 ^ 4 → op < 2 ^ 4 → rn < 2 ^ 4 → rd < 2 ^ 4 → rs < 2 ^ 4 → kind < 4 → rm < 2 ^ 4 → IsValid (Data cond false op s rn rd (rs * 2 ^ 8 + kind * 2 ^ 5 + 1 * 2 ^ 4 + rm))
 valid-data_shift_by_register cond op rn rd rs kind rm s c o n d r k m =
     valid-data_by_register cond op rn rd (rs * 2 ^ 8 + kind * 2 ^ 5 + 1 * 2 ^ 4) rm s c o n d (omega arith) (omega (arith, k)) (omega (arith, r, k)) m
 
 -- data processing with a register as it is
-pub valid-data_plain : (cond op rn rd rm : ℕ) (s : Bool) → cond < NIBBLES → op < NIBBLES → rn < NIBBLES → rd < NIBBLES → rm < NIBBLES → IsValid (Data cond false op s rn rd rm)
+pub valid-data_plain : (cond op rn rd rm : ℕ) (s : Bool) → cond < 2 ^ 4 → op < 2 ^ 4 → rn < 2 ^ 4 → rd < 2 ^ 4 → rm < 2 ^ 4 → IsValid (Data cond false op s rn rd rm)
 valid-data_plain cond op rn rd rm s c o n d m =
     let seven : bits rm 7 7 ≡ 0 = omega (arith, m) in
     let plain : has_bits_7_and_4 rm ≡ false = rw seven refl in
     valid-data_register cond op rn rd rm s c o n d (omega (arith, m)) plain
 
 -- MUL and MLA
-pub valid-multiply : (cond rd rn rs rm : ℕ) (acc s : Bool) → cond < NIBBLES → rd < NIBBLES → rn < NIBBLES → rs < NIBBLES → rm < NIBBLES → IsValid (Mul cond acc s rd rn rs rm)
+pub valid-multiply : (cond rd rn rs rm : ℕ) (acc s : Bool) → cond < 2 ^ 4 → rd < 2 ^ 4 → rn < 2 ^ 4 → rs < 2 ^ 4 → rm < 2 ^ 4 → IsValid (Mul cond acc s rd rn rs rm)
 unfolding word_of
 valid-multiply cond rd rn rs rm acc s c d n t m =
     let b1 = from_bool-lt acc in
@@ -92,7 +91,7 @@ valid-multiply cond rd rn rs rm acc s c d n t m =
     record { fits = (c, d, n, t, m); own_class = class-multiply w (rw (top, nine) refl) }
 
 -- a transfer with a number for its offset
-pub valid-single_immediate : (cond rn rd offset : ℕ) (pre up byte wb load : Bool) → cond < NIBBLES → rn < NIBBLES → rd < NIBBLES → offset < OPERANDS → IsValid (Single cond false pre up byte wb load rn rd offset)
+pub valid-single_immediate : (cond rn rd offset : ℕ) (pre up byte wb load : Bool) → cond < 2 ^ 4 → rn < 2 ^ 4 → rd < 2 ^ 4 → offset < 2 ^ 12 → IsValid (Single cond false pre up byte wb load rn rd offset)
 unfolding word_of
 valid-single_immediate cond rn rd offset pre up byte wb load c n d o =
     let b2 = from_bool-lt pre in
@@ -103,7 +102,7 @@ valid-single_immediate cond rn rd offset pre up byte wb load c n d o =
     record { fits = (c, n, d, o); own_class = class-group_2 (word_of (Single cond false pre up byte wb load rn rd offset)) (omega (arith, c, n, d, o, b2, b3, b4, b5, b6)) }
 
 -- a transfer with a register for its offset, which doesn't have bit 4
-pub valid-single_register : (cond rn rd offset : ℕ) (pre up byte wb load : Bool) → cond < NIBBLES → rn < NIBBLES → rd < NIBBLES → offset < OPERANDS → bit offset 4 ≡ false → IsValid (Single cond true pre up byte wb load rn rd offset)
+pub valid-single_register : (cond rn rd offset : ℕ) (pre up byte wb load : Bool) → cond < 2 ^ 4 → rn < 2 ^ 4 → rd < 2 ^ 4 → offset < 2 ^ 12 → bit offset 4 ≡ false → IsValid (Single cond true pre up byte wb load rn rd offset)
 unfolding word_of
 valid-single_register cond rn rd offset pre up byte wb load c n d o plain =
     let b2 = from_bool-lt pre in
@@ -116,8 +115,8 @@ valid-single_register cond rn rd offset pre up byte wb load c n d o plain =
     let same : bit w 4 ≡ false = ap (λ k. k == 1) four ∙ plain in
     record { fits = (c, n, d, o); own_class = class-group_3 w (omega (arith, c, n, d, o, b2, b3, b4, b5, b6)) ∙ rw same refl }
 
--- a transfer with a register for its offset, behind the bits of a shift by a number
-pub valid-single_by_number : (cond rn rd shift rm : ℕ) (pre up byte wb load : Bool) → cond < NIBBLES → rn < NIBBLES → rd < NIBBLES → shift % 2 ^ 5 ≡ 0 → shift < OPERANDS → rm < NIBBLES → IsValid (Single cond true pre up byte wb load rn rd (shift + rm))
+-- a transfer with a register for its offset, after the bits of a shift by a number
+pub valid-single_by_number : (cond rn rd shift rm : ℕ) (pre up byte wb load : Bool) → cond < 2 ^ 4 → rn < 2 ^ 4 → rd < 2 ^ 4 → shift % 2 ^ 5 ≡ 0 → shift < 2 ^ 12 → rm < 2 ^ 4 → IsValid (Single cond true pre up byte wb load rn rd (shift + rm))
 valid-single_by_number cond rn rd shift rm pre up byte wb load c n d k h m =
     let offset : ℕ = shift + rm in
     let four : bits offset 4 4 ≡ 0 = omega (arith, k, m) in
@@ -125,19 +124,19 @@ valid-single_by_number cond rn rd shift rm pre up byte wb load c n d k h m =
     valid-single_register cond rn rd offset pre up byte wb load c n d (omega (arith, k, h, m)) plain
 
 -- a transfer with a register for its offset that is shifted by a number of bits
-pub valid-single_shift : (cond rn rd amount kind rm : ℕ) (pre up byte wb load : Bool) → cond < NIBBLES → rn < NIBBLES → rd < NIBBLES → amount < 32 → kind < 4 → rm < NIBBLES → IsValid (Single cond true pre up byte wb load rn rd (amount * 2 ^ 7 + kind * 2 ^ 5 + rm))
+pub valid-single_shift : (cond rn rd amount kind rm : ℕ) (pre up byte wb load : Bool) → cond < 2 ^ 4 → rn < 2 ^ 4 → rd < 2 ^ 4 → amount < 32 → kind < 4 → rm < 2 ^ 4 → IsValid (Single cond true pre up byte wb load rn rd (amount * 2 ^ 7 + kind * 2 ^ 5 + rm))
 valid-single_shift cond rn rd amount kind rm pre up byte wb load c n d a k m =
     valid-single_by_number cond rn rd (amount * 2 ^ 7 + kind * 2 ^ 5) rm pre up byte wb load c n d (omega arith) (omega (arith, a, k)) m
 
 -- a transfer with a register as it is for its offset
-pub valid-single_plain : (cond rn rd rm : ℕ) (pre up byte wb load : Bool) → cond < NIBBLES → rn < NIBBLES → rd < NIBBLES → rm < NIBBLES → IsValid (Single cond true pre up byte wb load rn rd rm)
+pub valid-single_plain : (cond rn rd rm : ℕ) (pre up byte wb load : Bool) → cond < 2 ^ 4 → rn < 2 ^ 4 → rd < 2 ^ 4 → rm < 2 ^ 4 → IsValid (Single cond true pre up byte wb load rn rd rm)
 valid-single_plain cond rn rd rm pre up byte wb load c n d m =
     let four : bits rm 4 4 ≡ 0 = omega (arith, m) in
     let plain : bit rm 4 ≡ false = rw four refl in
     valid-single_register cond rn rd rm pre up byte wb load c n d (omega (arith, m)) plain
 
 -- a block transfer, whose list of registers has sixteen bits
-pub valid-block : (cond rn list : ℕ) (pre up psr wb load : Bool) → cond < NIBBLES → rn < NIBBLES → list < 2 ^ 16 → IsValid (Block cond pre up psr wb load rn list)
+pub valid-block : (cond rn list : ℕ) (pre up psr wb load : Bool) → cond < 2 ^ 4 → rn < 2 ^ 4 → list < 2 ^ 16 → IsValid (Block cond pre up psr wb load rn list)
 unfolding word_of
 valid-block cond rn list pre up psr wb load c n l =
     let b2 = from_bool-lt pre in
@@ -148,7 +147,7 @@ valid-block cond rn list pre up psr wb load c n l =
     record { fits = (c, n, l); own_class = class-group_4 (word_of (Block cond pre up psr wb load rn list)) (omega (arith, c, n, l, b2, b3, b4, b5, b6)) }
 
 -- a branch, whose distance has 24 bits with its sign
-pub valid-branch : (cond : ℕ) (link : Bool) (words : ℤ) → cond < NIBBLES → FitsOffset words → IsValid (Branch cond link words)
+pub valid-branch : (cond : ℕ) (link : Bool) (words : ℤ) → cond < 2 ^ 4 → FitsOffset words → IsValid (Branch cond link words)
 unfolding word_of
 valid-branch cond link words c w =
     let b1 = from_bool-lt link in
@@ -156,7 +155,7 @@ valid-branch cond link words c w =
     record { fits = (c, w); own_class = class-group_5 (word_of (Branch cond link words)) (omega (arith, c, b1, low)) }
 
 -- a software interrupt
-pub valid-swi : (cond number : ℕ) → cond < NIBBLES → number < SWI_NUMBERS → IsValid (Swi cond number)
+pub valid-swi : (cond number : ℕ) → cond < 2 ^ 4 → number < 2 ^ 24 → IsValid (Swi cond number)
 unfolding word_of
 valid-swi cond number c n =
     let w : ℕ = word_of (Swi cond number) in

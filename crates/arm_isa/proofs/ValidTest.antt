@@ -5,7 +5,6 @@ use Rattle.arm_isa.specs.declared.classes.Class.{Class}
 use Rattle.arm_isa.specs.declared.classes.Class.TheVariants as classes
 use Rattle.arm_isa.specs.declared.instruction.Instr.{Instr}
 use Rattle.arm_isa.specs.declared.instruction.Instr.TheVariants.{Data, Mul, Single, Block, Branch, Swi, Undefined}
-use Rattle.arm_isa.specs.declared.instruction.TheConstants.{NIBBLES, OPERANDS, SWI_NUMBERS}
 use Rattle.arm_isa.specs.Fields.{bits, bit, has_bits_7_and_4}
 use Rattle.arm_isa.specs.Table.{is_multiply, class_of}
 use Rattle.arm_isa.specs.Words.{word_of, FitsOffset, IsValid}
@@ -14,16 +13,16 @@ use Rattle.arm_isa.proofs.FieldLemmas.{from_bool-lt}
 use Rattle.arm_isa.proofs.ClassBits.{class-multiply, class-group_0, class-group_3}
 use Rattle.arm_isa.proofs.ValidLaws.{valid-data_immediate, valid-data_register, valid-multiply, valid-single_immediate, valid-single_register, valid-block, valid-branch, valid-swi}
 
-nibbles : (a b : ℕ) → are_nibbles a b ≡ true → (a < NIBBLES) × (b < NIBBLES)
+nibbles : (a b : ℕ) → are_nibbles a b ≡ true → (a < 2 ^ 4) × (b < 2 ^ 4)
 nibbles a b is =
-    let both = and_parts (nat_lt a NIBBLES) (nat_lt b NIBBLES) is in
-    (ltb-true a NIBBLES both.0, ltb-true b NIBBLES both.1)
+    let both = and_parts (nat_lt a (2 ^ 4)) (nat_lt b (2 ^ 4)) is in
+    (ltb-true a (2 ^ 4) both.0, ltb-true b (2 ^ 4) both.1)
 
 both_true : (a b : Bool) → a ≡ true → b ≡ true → (a && b) ≡ true
 both_true a b left right = rw (left, right) refl
 
-nibbles_true : (a b : ℕ) → a < NIBBLES → b < NIBBLES → are_nibbles a b ≡ true
-nibbles_true a b p q = both_true _ _ (lt-ltb a NIBBLES p) (lt-ltb b NIBBLES q)
+nibbles_true : (a b : ℕ) → a < 2 ^ 4 → b < 2 ^ 4 → are_nibbles a b ≡ true
+nibbles_true a b p q = both_true _ _ (lt-ltb a (2 ^ 4) p) (lt-ltb b (2 ^ 4) q)
 
 not_true : (t : Bool) → not t ≡ true → t ≡ false
 not_true true is = absurd (true≢false (sym is))
@@ -52,45 +51,45 @@ unfolding word_of
 valid_by_test (Data cond true op s rn rd op2) is =
     let a = and_parts (are_nibbles cond op) _ is in
     let b = and_parts (are_nibbles rn rd) _ a.1 in
-    let c = and_parts (nat_lt op2 OPERANDS) _ b.1 in
+    let c = and_parts (nat_lt op2 (2 ^ 12)) _ b.1 in
     let x = nibbles cond op a.0 in
     let y = nibbles rn rd b.0 in
-    valid-data_immediate cond op rn rd op2 s x.0 x.1 y.0 y.1 (ltb-true op2 OPERANDS c.0)
+    valid-data_immediate cond op rn rd op2 s x.0 x.1 y.0 y.1 (ltb-true op2 (2 ^ 12) c.0)
 valid_by_test (Data cond false op s rn rd op2) is =
     let a = and_parts (are_nibbles cond op) _ is in
     let b = and_parts (are_nibbles rn rd) _ a.1 in
-    let c = and_parts (nat_lt op2 OPERANDS) _ b.1 in
+    let c = and_parts (nat_lt op2 (2 ^ 12)) _ b.1 in
     let x = nibbles cond op a.0 in
     let y = nibbles rn rd b.0 in
-    valid-data_register cond op rn rd op2 s x.0 x.1 y.0 y.1 (ltb-true op2 OPERANDS c.0) (not_true _ c.1)
+    valid-data_register cond op rn rd op2 s x.0 x.1 y.0 y.1 (ltb-true op2 (2 ^ 12) c.0) (not_true _ c.1)
 valid_by_test (Mul cond acc s rd rn rs rm) is =
-    let a = and_parts (nat_lt cond NIBBLES) _ is in
+    let a = and_parts (nat_lt cond (2 ^ 4)) _ is in
     let b = and_parts (are_nibbles rd rn) _ a.1 in
     let x = nibbles rd rn b.0 in
     let y = nibbles rs rm b.1 in
-    valid-multiply cond rd rn rs rm acc s (ltb-true cond NIBBLES a.0) x.0 x.1 y.0 y.1
+    valid-multiply cond rd rn rs rm acc s (ltb-true cond (2 ^ 4) a.0) x.0 x.1 y.0 y.1
 valid_by_test (Single cond true pre up byte wb load rn rd offset) is =
-    let a = and_parts (nat_lt cond NIBBLES) _ is in
+    let a = and_parts (nat_lt cond (2 ^ 4)) _ is in
     let b = and_parts (are_nibbles rn rd) _ a.1 in
-    let c = and_parts (nat_lt offset OPERANDS) _ b.1 in
+    let c = and_parts (nat_lt offset (2 ^ 12)) _ b.1 in
     let x = nibbles rn rd b.0 in
-    valid-single_register cond rn rd offset pre up byte wb load (ltb-true cond NIBBLES a.0) x.0 x.1 (ltb-true offset OPERANDS c.0) (not_true _ c.1)
+    valid-single_register cond rn rd offset pre up byte wb load (ltb-true cond (2 ^ 4) a.0) x.0 x.1 (ltb-true offset (2 ^ 12) c.0) (not_true _ c.1)
 valid_by_test (Single cond false pre up byte wb load rn rd offset) is =
-    let a = and_parts (nat_lt cond NIBBLES) _ is in
+    let a = and_parts (nat_lt cond (2 ^ 4)) _ is in
     let b = and_parts (are_nibbles rn rd) _ a.1 in
-    let c = and_parts (nat_lt offset OPERANDS) _ b.1 in
+    let c = and_parts (nat_lt offset (2 ^ 12)) _ b.1 in
     let x = nibbles rn rd b.0 in
-    valid-single_immediate cond rn rd offset pre up byte wb load (ltb-true cond NIBBLES a.0) x.0 x.1 (ltb-true offset OPERANDS c.0)
+    valid-single_immediate cond rn rd offset pre up byte wb load (ltb-true cond (2 ^ 4) a.0) x.0 x.1 (ltb-true offset (2 ^ 12) c.0)
 valid_by_test (Block cond pre up psr wb load rn list) is =
     let a = and_parts (are_nibbles cond rn) _ is in
     let x = nibbles cond rn a.0 in
     valid-block cond rn list pre up psr wb load x.0 x.1 (ltb-true list (2 ^ 16) a.1)
 valid_by_test (Branch cond link words) is =
-    let a = and_parts (nat_lt cond NIBBLES) _ is in
-    valid-branch cond link words (ltb-true cond NIBBLES a.0) (distance_fits words a.1)
+    let a = and_parts (nat_lt cond (2 ^ 4)) _ is in
+    valid-branch cond link words (ltb-true cond (2 ^ 4) a.0) (distance_fits words a.1)
 valid_by_test (Swi cond number) is =
-    let a = and_parts (nat_lt cond NIBBLES) _ is in
-    valid-swi cond number (ltb-true cond NIBBLES a.0) (ltb-true number SWI_NUMBERS a.1)
+    let a = and_parts (nat_lt cond (2 ^ 4)) _ is in
+    valid-swi cond number (ltb-true cond (2 ^ 4) a.0) (ltb-true number (2 ^ 24) a.1)
 valid_by_test (Undefined word) is =
     let a = and_parts (nat_lt word (2 ^ 32)) _ is in
     record { fits = ltb-true word (2 ^ 32) a.0; own_class = undefined (class_of word) a.1 }
@@ -150,30 +149,30 @@ pub test_of_valid : (i : Instr) → IsValid i → is_valid i ≡ true
 unfolding word_of
 test_of_valid (Data cond true op s rn rd op2) valid =
     let f = valid.fits in
-    both_true _ _ (nibbles_true cond op f.0 f.1) (both_true _ _ (nibbles_true rn rd f.2 f.3) (both_true _ _ (lt-ltb op2 OPERANDS f.4) refl))
+    both_true _ _ (nibbles_true cond op f.0 f.1) (both_true _ _ (nibbles_true rn rd f.2 f.3) (both_true _ _ (lt-ltb op2 (2 ^ 12) f.4) refl))
 test_of_valid (Data cond false op s rn rd op2) valid =
     let f = valid.fits in
     let plain = plain_operand cond op rn rd op2 s valid in
-    both_true _ _ (nibbles_true cond op f.0 f.1) (both_true _ _ (nibbles_true rn rd f.2 f.3) (both_true _ _ (lt-ltb op2 OPERANDS f.4) (ap not plain)))
+    both_true _ _ (nibbles_true cond op f.0 f.1) (both_true _ _ (nibbles_true rn rd f.2 f.3) (both_true _ _ (lt-ltb op2 (2 ^ 12) f.4) (ap not plain)))
 test_of_valid (Mul cond acc s rd rn rs rm) valid =
     let f = valid.fits in
-    both_true _ _ (lt-ltb cond NIBBLES f.0) (both_true _ _ (nibbles_true rd rn f.1 f.2) (nibbles_true rs rm f.3 f.4))
+    both_true _ _ (lt-ltb cond (2 ^ 4) f.0) (both_true _ _ (nibbles_true rd rn f.1 f.2) (nibbles_true rs rm f.3 f.4))
 test_of_valid (Single cond true pre up byte wb load rn rd offset) valid =
     let f = valid.fits in
     let plain = plain_offset cond rn rd offset pre up byte wb load valid in
-    both_true _ _ (lt-ltb cond NIBBLES f.0) (both_true _ _ (nibbles_true rn rd f.1 f.2) (both_true _ _ (lt-ltb offset OPERANDS f.3) (ap not plain)))
+    both_true _ _ (lt-ltb cond (2 ^ 4) f.0) (both_true _ _ (nibbles_true rn rd f.1 f.2) (both_true _ _ (lt-ltb offset (2 ^ 12) f.3) (ap not plain)))
 test_of_valid (Single cond false pre up byte wb load rn rd offset) valid =
     let f = valid.fits in
-    both_true _ _ (lt-ltb cond NIBBLES f.0) (both_true _ _ (nibbles_true rn rd f.1 f.2) (both_true _ _ (lt-ltb offset OPERANDS f.3) refl))
+    both_true _ _ (lt-ltb cond (2 ^ 4) f.0) (both_true _ _ (nibbles_true rn rd f.1 f.2) (both_true _ _ (lt-ltb offset (2 ^ 12) f.3) refl))
 test_of_valid (Block cond pre up psr wb load rn list) valid =
     let f = valid.fits in
     both_true _ _ (nibbles_true cond rn f.0 f.1) (lt-ltb list (2 ^ 16) f.2)
 test_of_valid (Branch cond link words) valid =
     let f = valid.fits in
-    both_true _ _ (lt-ltb cond NIBBLES f.0) (fits_distance words f.1)
+    both_true _ _ (lt-ltb cond (2 ^ 4) f.0) (fits_distance words f.1)
 test_of_valid (Swi cond number) valid =
     let f = valid.fits in
-    both_true _ _ (lt-ltb cond NIBBLES f.0) (lt-ltb number SWI_NUMBERS f.1)
+    both_true _ _ (lt-ltb cond (2 ^ 4) f.0) (lt-ltb number (2 ^ 24) f.1)
 test_of_valid (Undefined word) valid =
     both_true _ _ (lt-ltb word (2 ^ 32) valid.fits) (ap is_undefined valid.own_class)
 

@@ -1,6 +1,5 @@
 -- The immediates of data processing (VL86C010 (ARM2) data manual, immediate operand rotates).
 use Rattle.std.specs.Prelude.{◌≡◌, ℕ, ◌+◌, ◌-◌, ◌*◌, ◌/◌, ◌%◌, ◌^◌, ◌<◌}
-use Rattle.arm_isa.specs.declared.instruction.TheConstants.{OPERANDS}
 use Rattle.arm_isa.specs.Fields.{bits}
 
 -- a word rotated right by a number of bits below 32
@@ -17,5 +16,5 @@ immediate_value field = rotated (bits field 7 0) (2 * turns_of field)
 
 -- a field of twelve bits that gives a number
 pub record Gives (field n : ℕ) : Type 0 where
-  pub range : field < OPERANDS
+  pub range : field < 2 ^ 12
   pub value : immediate_value field ≡ n

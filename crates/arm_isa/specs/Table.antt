@@ -8,8 +8,8 @@ use Rattle.arm_isa.specs.Fields.{bits, bit, has_bits_7_and_4}
 abbrev pub is_multiply : ℕ → Bool
 is_multiply w = (bits w 27 22 == 0) && (bits w 7 4 == 9)
 
--- The class of a word: the first line that its bits fit. What looks like data with a register operand that has bits 7
--- and 4, or like a transfer with a register offset that has bit 4, is no instruction.
+-- The class of a word: the first line that its bits fit. That what looks like data with a register operand that has bits 7
+-- and 4, or like a transfer with a register offset that has bit 4, is undefined, is this project's own.
 unfoldable pub class_of : ℕ → Class
 class_of w =
     if is_multiply w then Multiply

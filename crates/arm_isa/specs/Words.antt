@@ -5,7 +5,6 @@ use Rattle.arm_isa.specs.declared.classes.Class.{Class}
 use Rattle.arm_isa.specs.declared.classes.Class.TheVariants as classes
 use Rattle.arm_isa.specs.declared.instruction.Instr.{Instr}
 use Rattle.arm_isa.specs.declared.instruction.Instr.TheVariants.{Data, Mul, Single, Block, Branch, Swi, Undefined}
-use Rattle.arm_isa.specs.declared.instruction.TheConstants.{NIBBLES, OPERANDS, SWI_NUMBERS}
 use Rattle.arm_isa.specs.Fields.{bits, bit, signed_offset, offset_field}
 use Rattle.arm_isa.specs.Table.{class_of}
 
@@ -83,12 +82,12 @@ FitsOffset (negsuc n) = n < 2 ^ 23
 
 -- fields in range
 abbrev pub Fits : Instr → Type 0
-Fits (Data cond imm op s rn rd op2) = (cond < NIBBLES) × (op < NIBBLES) × (rn < NIBBLES) × (rd < NIBBLES) × (op2 < OPERANDS)
-Fits (Mul cond acc s rd rn rs rm) = (cond < NIBBLES) × (rd < NIBBLES) × (rn < NIBBLES) × (rs < NIBBLES) × (rm < NIBBLES)
-Fits (Single cond reg pre up byte wb load rn rd offset) = (cond < NIBBLES) × (rn < NIBBLES) × (rd < NIBBLES) × (offset < OPERANDS)
-Fits (Block cond pre up psr wb load rn list) = (cond < NIBBLES) × (rn < NIBBLES) × (list < 2 ^ 16)
-Fits (Branch cond link words) = (cond < NIBBLES) × FitsOffset words
-Fits (Swi cond number) = (cond < NIBBLES) × (number < SWI_NUMBERS)
+Fits (Data cond imm op s rn rd op2) = (cond < 2 ^ 4) × (op < 2 ^ 4) × (rn < 2 ^ 4) × (rd < 2 ^ 4) × (op2 < 2 ^ 12)
+Fits (Mul cond acc s rd rn rs rm) = (cond < 2 ^ 4) × (rd < 2 ^ 4) × (rn < 2 ^ 4) × (rs < 2 ^ 4) × (rm < 2 ^ 4)
+Fits (Single cond reg pre up byte wb load rn rd offset) = (cond < 2 ^ 4) × (rn < 2 ^ 4) × (rd < 2 ^ 4) × (offset < 2 ^ 12)
+Fits (Block cond pre up psr wb load rn list) = (cond < 2 ^ 4) × (rn < 2 ^ 4) × (list < 2 ^ 16)
+Fits (Branch cond link words) = (cond < 2 ^ 4) × FitsOffset words
+Fits (Swi cond number) = (cond < 2 ^ 4) × (number < 2 ^ 24)
 Fits (Undefined word) = word < 2 ^ 32
 
 -- An instruction that has a word: its fields are in range, and its word isn't classed otherwise.

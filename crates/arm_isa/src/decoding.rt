@@ -1,3 +1,4 @@
+//! Instructions from words. A new class has its reader here, and its line in `read_as`.
 ghost use Rattle.std.specs.Prelude.{◌≡◌};
 ghost use Rattle.arm_isa.specs.Fields.{bits, signed_offset};
 ghost use Rattle.arm_isa.specs.Words.{means, word_of, IsValid, data_of, multiply_of, single_of, block_of, branch_of, swi_of, read_as};

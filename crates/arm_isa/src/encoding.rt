@@ -1,7 +1,7 @@
+//! Words from instructions. A new class has its writer here, and its arm in `sum_of_fields`.
 ghost use Rattle.std.specs.Prelude.{◌≡◌, ℕ, ◌<◌, ◌≤◌, ◌*◌, ◌+◌, ◌%◌, ◌^◌};
 ghost use Rattle.std.specs.Int.{from_bool};
 ghost use Rattle.arm_isa.specs.declared.instruction.Instr.TheVariants.{Data, Mul, Branch, Swi};
-ghost use Rattle.arm_isa.specs.declared.instruction.TheConstants.{NIBBLES, OPERANDS};
 ghost use Rattle.arm_isa.specs.Words.{means, word_of, transfer_flags, Fits, IsValid};
 
 use crate::instruction::Instr;
@@ -26,7 +26,7 @@ const DISTANCE: u32 = 0xff_ffff;
 
 /// A field of four bits at its place in a word.
 fn nibble(value: u8, low: u32) -> u32
-    requires value { value < NIBBLES }
+    requires value { value < 2 ^ 4 }
     requires low { low ≤ 28 }
     ensures { result ≡ value * 2 ^ low }
 {
@@ -76,7 +76,7 @@ fn transfer(pre: bool, up: bool, third: bool, wb: bool, load: bool) -> u32
 }
 
 fn single(cond: u8, reg: bool, flags: u32, rn: u8, rd: u8, offset: u16) -> u32
-    requires fields { (cond < NIBBLES) × (rn < NIBBLES) × (rd < NIBBLES) × (offset < OPERANDS) }
+    requires fields { (cond < 2 ^ 4) × (rn < 2 ^ 4) × (rd < 2 ^ 4) × (offset < 2 ^ 12) }
     requires flags { (flags % 2 ^ 20 ≡ 0) × (flags < 2 ^ 25) }
     ensures { result ≡ cond * 2 ^ 28 + 1 * 2 ^ 26 + from_bool reg * 2 ^ 25 + flags
         + rn * 2 ^ 16 + rd * 2 ^ 12 + offset }
@@ -91,7 +91,7 @@ fn single(cond: u8, reg: bool, flags: u32, rn: u8, rd: u8, offset: u16) -> u32
 }
 
 fn block(cond: u8, flags: u32, rn: u8, list: u16) -> u32
-    requires fields { (cond < NIBBLES) × (rn < NIBBLES) }
+    requires fields { (cond < 2 ^ 4) × (rn < 2 ^ 4) }
     requires flags { (flags % 2 ^ 20 ≡ 0) × (flags < 2 ^ 25) }
     ensures { result ≡ cond * 2 ^ 28 + 4 * 2 ^ 25 + flags + rn * 2 ^ 16 + list }
 {

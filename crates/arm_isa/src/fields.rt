@@ -1,3 +1,4 @@
+//! The bits of a word.
 ghost use Rattle.std.specs.Prelude.{◌≡◌, ◌≤◌, ◌<◌, ◌+◌};
 ghost use Rattle.arm_isa.specs.Fields.{bits, bit, has_bits_7_and_4};
 

@@ -1,3 +1,4 @@
+//! Immediate operands from numbers.
 ghost use Rattle.std.specs.Prelude.{◌≡◌, ◌≢◌, ℕ, ◌<◌, ◌≤◌, IfSome, IfNone};
 ghost use Rattle.arm_isa.specs.Immediates.{Gives, turns_of};
 

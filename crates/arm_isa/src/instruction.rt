@@ -1,3 +1,4 @@
+//! Instructions, and which of them have a word.
 ghost use Rattle.std.specs.Prelude.{◌≡◌};
 ghost use Rattle.arm_isa.specs.Valid.{are_nibbles, is_operand, is_offset, is_distance};
 
@@ -44,7 +45,7 @@ pub enum Instr {
     },
     /// LDR where `load`, else STR: `reg` has a register, shifted by a number as in `op2` of data processing, in place of an
     /// `offset` of 0 to 4,095 bytes. `up` adds the offset to `rn`, and else it is subtracted, before the access where `pre`
-    /// and else behind it. `byte` moves a byte. With `pre`, `wb` writes the moved address back to `rn`. Without `pre` that
+    /// and else after it. `byte` moves a byte. With `pre`, `wb` writes the moved address back to `rn`. Without `pre` that
     /// is always done, and `wb` makes the access as in user mode (LDRT, STRT).
     Single {
         cond: u8,

@@ -8,9 +8,11 @@ mod encoding;
 mod fields;
 mod immediates;
 mod instruction;
+pub mod numbers;
 
 pub use classes::{Class, class_of};
 pub use decoding::decode;
 pub use encoding::encode;
+pub use fields::bit;
 pub use immediates::immediate;
 pub use instruction::{BRANCH_WORDS, Instr, NIBBLES, OPERANDS, SWI_NUMBERS};

@@ -1,5 +1,5 @@
 -- The board does what the program does, a line at a time.
-use Rattle.std.proofs.Common.{◌≡◌, ℕ, zero, suc, ◌+◌, ◌*◌, ◌%◌, ◌<◌, ◌≤◌, List, [], ◌∷◌, ◌++◌, length, Option, Some, None, slice_get, slice_index, true, refl, sym, ap, subst, ◌∙◌, arith, append-nil, length-set, get_or-set_same, mod-eq_of_lt}
+use Rattle.std.proofs.Common.{◌≡◌, ℕ, zero, suc, ◌+◌, ◌*◌, ◌%◌, ◌^◌, ◌<◌, ◌≤◌, List, [], ◌∷◌, ◌++◌, length, Option, Some, None, slice_get, slice_index, true, refl, sym, ap, subst, ◌∙◌, arith, append-nil, length-set, get_or-set_same, mod-eq_of_lt}
 use Rattle.std.proofs.lemmas.Option.{slice_get_within}
 use Rattle.bv_run.specs.declared.report.Report.TheVariants.{Done}
 use Rattle.bv_run.specs.Outcome.{Over, Going}
@@ -8,8 +8,7 @@ use Rattle.bv_run.proofs.RunLaws.{Leads, leads_step, leads-leads, leads_run, run
 use Rattle.bv_run.proofs.Agreement.{Follows, agree_from, grows_run}
 use Rattle.bv_base.specs.Limits.{image_words}
 use Rattle.bv_base.specs.MemoryMap.{image_start}
-use Rattle.arm2_cpu.specs.declared.regs.TheConstants.{PC_END}
-use Rattle.arm2_cpu.specs.Registers.{at_next}
+use Rattle.arm2_alu.specs.Registers.{at_next}
 use Rattle.arm2_machine.specs.Machine.{Machine, fetched, loaded, loaded_ram, arena_of, with_low}
 use Rattle.arm2_machine.specs.Step.{board_step, board_run}
 use Rattle.arm2_machine.proofs.Memory.{HasAt, loaded_has, arena_of-loaded_ram}
@@ -49,8 +48,8 @@ go_on : (n : ℕ) (course : Course) (m t : Machine) (bytes out : List ℕ) → L
 go_on n (Finished s report) m t bytes out l f = (l.steps + f.0, f.1, leads_run board_step m t bytes l f.0 out ∙ f.2, f.3)
 go_on n (Spent s) m t bytes out l f = (l.steps + f.0, f.1, omega (arith, l.some, f.2), leads_run board_step m t bytes l f.0 out ∙ f.3, f.4)
 
-next_pc : (a b : ℕ) → a ≡ b → b + 4 < PC_END → (a + 4) % PC_END ≡ b + 4
-next_pc a b is small = ap (λ n. (n + 4) % PC_END) is ∙ mod-eq_of_lt small
+next_pc : (a b : ℕ) → a ≡ b → b + 4 < 2 ^ 26 → (a + 4) % 2 ^ 26 ≡ b + 4
+next_pc a b is small = ap (λ n. (n + 4) % 2 ^ 26) is ∙ mod-eq_of_lt small
 
 -- the board behind an instruction that does no more, and behind MOV R0, #n
 abbrev behind : Machine → Machine
@@ -67,7 +66,7 @@ leads_move : (m : Machine) (n : ℕ) → n < 256 → m.regs.svc ≡ true → fet
 leads_move m n small svc at = leads_step board_step m (moved m n) [] (step_move m 0 n (omega arith) small svc (at ∙ ap (λ w. Some w) (let e : MOV_R0 + n ≡ 3818913792 + 4096 * 0 + n = omega arith in e)))
 
 -- the code of the end ends the run
-ends : (n : ℕ) (m : Machine) (a : ℕ) (s : State) → m.regs.pc ≡ a → a + 4 < PC_END → m.regs.svc ≡ true → length m.regs.low ≡ 13 → arena_of m.ram ≡ s.arena → HasAt m.ram a end_code → FollowsCourse n (Finished s Done) m s.out
+ends : (n : ℕ) (m : Machine) (a : ℕ) (s : State) → m.regs.pc ≡ a → a + 4 < 2 ^ 26 → m.regs.svc ≡ true → length m.regs.low ≡ 13 → arena_of m.ram ≡ s.arena → HasAt m.ram a end_code → FollowsCourse n (Finished s Done) m s.out
 ends n m a s at small svc registers arena h =
     let first = leads_move m 0 (omega arith) svc (ap (fetched m.ram) at ∙ h.0) in
     let last = step_done (moved m 0) (r0-moved m 0 registers) svc (ap (fetched m.ram) (next_pc m.regs.pc a at small) ∙ h.1.0) in (
@@ -78,7 +77,7 @@ ends n m a s at small svc registers arena h =
     )
 
 -- the code of VDU writes the byte and leads on
-leads_vdu : (m : Machine) (a n : ℕ) → m.regs.pc ≡ a → a + 4 < PC_END → m.regs.svc ≡ true → length m.regs.low ≡ 13 → n ≤ 255 → HasAt m.ram a (item_code (Vdu n)) → Leads board_step m (behind (moved m n)) (n ∷ [])
+leads_vdu : (m : Machine) (a n : ℕ) → m.regs.pc ≡ a → a + 4 < 2 ^ 26 → m.regs.svc ≡ true → length m.regs.low ≡ 13 → n ≤ 255 → HasAt m.ram a (item_code (Vdu n)) → Leads board_step m (behind (moved m n)) (n ∷ [])
 leads_vdu m a n at small svc registers byte h =
     let first = leads_move m n (omega (arith, byte)) svc (ap (fetched m.ram) at ∙ h.0) in
     let write = step_write (moved m n) svc (ap (fetched m.ram) (next_pc m.regs.pc a at small) ∙ h.1.0) in
@@ -86,7 +85,7 @@ leads_vdu m a n at small svc registers byte h =
     leads-leads board_step m (moved m n) _ [] (n ∷ []) first (leads_step board_step _ _ (n ∷ []) (write ∙ ap (λ b. Goes (behind (moved m n)) (b ∷ [])) value))
 
 -- a place of the program lies within the addresses of instructions
-within_image : (p : List ProgramLine) (place : ℕ) → length (code_of p) ≤ image_words → place ≤ length p → image_start + 8 * place + 8 < PC_END
+within_image : (p : List ProgramLine) (place : ℕ) → length (code_of p) ≤ image_words → place ≤ length p → image_start + 8 * place + 8 < 2 ^ 26
 within_image p place short within = omega (arith, short, within, length-code_of p)
 
 -- the code of the program stands in the board's memory

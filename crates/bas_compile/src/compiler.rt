@@ -10,8 +10,8 @@ ghost use Rattle.bas_compile.specs.declared.refusal.Refusal.{Refusal as Reason};
 use crate::code::generate;
 use crate::parse::parse_lines;
 use crate::refusal::{LONG_FILE, Refusal};
-use bv_base::FILE_BYTES;
 use arm2_machine::write_image;
+use bv_base::FILE_BYTES;
 use std::alloc::Global;
 use token_file::{FileError, read_file};
 

@@ -5,8 +5,8 @@ ghost use Rattle.std.specs.Prelude.{◌<◌, ◌^◌, length};
 
 use arm2_machine::{Board, ImageError, read_image, write_image};
 use bas_compile::{Refusal, compile};
-use bv_base::FILE_BYTES;
 use basv_top::{Status, basv, basv_in_memory};
+use bv_base::FILE_BYTES;
 use bv_io::{MemShelf, MemSink, Shelf, Sink, SinkFault, SureShelf, TakeError};
 use bv_run::{Report, RunEnd};
 use sqlite_items::Items;

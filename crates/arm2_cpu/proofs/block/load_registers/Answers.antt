@@ -12,7 +12,7 @@ word_of-requires-clause-allowed g c =
 
 pub registers-preserved : goal.registers-preserved
 registers-preserved g c =
-    loading_takes _ _ _ _ _ _ _ _ _ _ _ _ c.registers.invariant (omega arith) (sym c.is_listed.ensures ∙ c.if-not-is_listed.false) c.word_of.ensures c.set_banked.ensures.value (c.set_banked.ensures.valid c.registers.invariant.valid)
+    loading_takes _ _ _ _ _ _ _ _ _ _ _ _ c.registers.invariant (omega arith) (sym c.is_listed.ensures ∙ c.if-not-is_listed.false) c.word_of.ensures c.set_banked.ensures
 
-pub returns-clause-value : goal.returns-clause-value
-returns-clause-value g c = loading_ends _ _ _ _ _ _ _ _ _ _ c.registers.invariant (omega arith)
+pub returns : goal.returns
+returns g c = loading_ends _ _ _ _ _ _ _ _ _ _ c.registers.invariant (omega arith)

@@ -9,5 +9,9 @@ invariant-steps g l =
     record {
       so_far : IsSoFar board_step l.initial.self.machine l.bound (l.bound - l.made) l.self.machine (g.O.Sink.written l.initial.out) (g.O.Sink.written l.out) 0 l.made;
       same : l.self.steps ≡ l.initial.self.steps;
+      within : l.made ≤ l.bound;
       faults : g.O.Sink.faults l.initial.out ≤ g.O.Sink.faults l.out;
     }
+
+abbrev pub decreases-steps : goal.decreases-steps
+decreases-steps g l = l.bound - l.made
