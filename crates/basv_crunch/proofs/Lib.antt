@@ -1,0 +1,7 @@
+mod Rows
+mod FirstParts
+mod Bodies
+mod PieceLines
+mod LineEnds
+mod Texts
+mod LineBytes
