@@ -10,12 +10,13 @@ use Rattle.basv_crunch.specs.declared.part.Kind.TheVariants as kinds
 use Rattle.basv_crunch.specs.declared.part.Part.{Part}
 use Rattle.basv_crunch.specs.declared.part.Place.{Place}
 use Rattle.basv_crunch.specs.declared.part.Place.TheVariants as places
-use Rattle.basv_crunch.specs.Parts.{part_of, unless_none, kept, is_reference, referred, by_place, worded, row, single, or_else, by_text, FirstOf, FirstPart}
+use Rattle.basv_crunch.specs.Parts.{part_of, unless_none, kept, is_reference, referred, Early, Alone, Before, by_place, worded, row, single, or_else, by_text, FirstOf, FirstPart}
 use Rattle.basv_crunch.proofs.Rows.{row_within}
 
-one_of : (early : Option Part) (place : Place) (text : List ℕ) (a b : Option Part) → FirstOf early place text a → FirstOf early place text b → a ≡ b
-one_of (Some part) place text a b p q = p ∙ sym q
-one_of None place text a b p q = p.2 ∙ ap (λ word. by_text place word text) (one_longest text p.0 q.0 p.1 q.1) ∙ sym q.2
+one_of : (early : Early) (place : Place) (text : List ℕ) (a b : Option Part) → FirstOf early place text a → FirstOf early place text b → a ≡ b
+one_of (Alone part) place text a b p q = p ∙ sym q
+one_of (Before (Some part)) place text a b p q = p ∙ sym q
+one_of (Before None) place text a b p q = p.2 ∙ ap (λ word. by_text place word text) (one_longest text p.0 q.0 p.1 q.1) ∙ sym q.2
 
 -- a text has one first part at most
 pub one_first : (place : Place) (text : List ℕ) (a b : Option Part) → FirstPart place text a → FirstPart place text b → a ≡ b
@@ -48,7 +49,12 @@ referred_within text = cases (is_reference text)
     cases true = unless_none_within (length text) _ (length (front_digits 10 text)) (row_within (is_digit 10) text)
     cases false = tt
 
-by_place_within : (place : Place) (text : List ℕ) → Within (length text) (by_place place text)
+-- what the first three rules give is within these bytes
+abbrev EarlyWithin : ℕ → Early → Type 0
+EarlyWithin most (Alone found) = Within most found
+EarlyWithin most (Before found) = Within most found
+
+by_place_within : (place : Place) (text : List ℕ) → EarlyWithin (length text) (by_place place text)
 by_place_within places.Quotes text = kept_within text
 by_place_within places.Tail text = kept_within text
 by_place_within places.Call text = unless_none_within (length text) _ (length (take_while is_in_name text)) (row_within is_in_name text)
@@ -85,9 +91,10 @@ worded_within place text (Some word) longest =
     let some : word.0 ≢ 0 = b.some in
     (omega (arith, some), omega (arith, b.size_is, ap length b.spelled, length-append b.word b.rest))
 
-of_within : (early : Option Part) (place : Place) (text : List ℕ) (found : Option Part) → Within (length text) early → FirstOf early place text found → Within (length text) found
-of_within (Some part) place text found is first = subst (Within (length text)) (sym first) is
-of_within None place text found is first =
+of_within : (early : Early) (place : Place) (text : List ℕ) (found : Option Part) → EarlyWithin (length text) early → FirstOf early place text found → Within (length text) found
+of_within (Alone part) place text found is first = subst (Within (length text)) (sym first) is
+of_within (Before (Some part)) place text found is first = subst (Within (length text)) (sym first) is
+of_within (Before None) place text found is first =
     subst (Within (length text)) (sym first.2) (or_else_within (length text) (worded place first.0) (or_else (row text) (single text)) (worded_within place text first.0 first.1) (or_else_within (length text) (row text) (single text) (row_part_within text) (single_within text)))
 
 -- the first part is within its text

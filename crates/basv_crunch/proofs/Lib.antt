@@ -5,3 +5,6 @@ mod PieceLines
 mod LineEnds
 mod Texts
 mod LineBytes
+mod Numbers
+mod Shown
+mod ListedParts

@@ -17,7 +17,7 @@ use Rattle.basv_crunch.specs.declared.part.Kind.TheVariants as kinds
 use Rattle.basv_crunch.specs.declared.part.Part.{Part}
 use Rattle.basv_crunch.specs.declared.part.Place.{Place}
 use Rattle.basv_crunch.specs.declared.part.Place.TheVariants as places
-use Rattle.basv_crunch.specs.Parts.{part_of, unless_none, kept, is_reference, referred, by_place, token_at, worded, row, single, or_else, FirstOf, token_bytes, part_bytes, behind_part}
+use Rattle.basv_crunch.specs.Parts.{part_of, unless_none, kept, is_reference, referred, Early, Alone, Before, by_place, token_at, worded, row, single, or_else, FirstOf, token_bytes, part_bytes, behind_part}
 use Rattle.basv_crunch.specs.Crunched.{CutInto, parts_bytes, IsLineOf, AreLines}
 use Rattle.basv_crunch.proofs.Rows.{row_is, row_passes, all_map, all_append}
 
@@ -67,7 +67,12 @@ clean_referred text = cases (is_reference text) refl
         clean_unless text (kinds.Reference (front_value 10 text)) (length (front_digits 10 text)) (clean_reference (front_value 10 text) low)
     cases false is = tt
 
-clean_by_place : (place : Place) (text : List ℕ) → IsCleanPart text (by_place place text)
+-- what the first three rules give is clean
+abbrev IsCleanEarly : List ℕ → Early → Type 0
+IsCleanEarly text (Alone found) = IsCleanPart text found
+IsCleanEarly text (Before found) = IsCleanPart text found
+
+clean_by_place : (place : Place) (text : List ℕ) → IsCleanEarly text (by_place place text)
 clean_by_place places.Quotes text = clean_kept text
 clean_by_place places.Tail text = clean_kept text
 clean_by_place places.Call text = clean_unless text kinds.Called (length (take_while is_in_name text)) (clean_taken is_in_name refl text)
@@ -96,30 +101,30 @@ clean_single (b ∷ rest) = cases (nat_le 32 b && nat_lt b 127) refl
 clean_token : (token : ℕ) → is_token_number token ≡ true → Clean (token_bytes token)
 clean_token token is = by_size (nat_lt token 256) refl is
   where
-    by_size : (t : Bool) → nat_lt token 256 ≡ t → (nat_le 127 token && t || nat_le 50688 token && (nat_lt token 65536 && nat_le 128 (token % 256))) ≡ true → Clean (if t then token ∷ [] else token / 256 ∷ token % 256 ∷ [])
+    by_size : (t : Bool) → nat_lt token 256 ≡ t → (nat_le 127 token && t || nat_le 50688 token && (nat_lt token 51456 && nat_le 128 (token % 256))) ≡ true → Clean (if t then token ∷ [] else token / 256 ∷ token % 256 ∷ [])
     by_size true small is = ((λ e. by_low (nat_le 127 token) refl is e), tt)
       where
-        by_low : (u : Bool) → nat_le 127 token ≡ u → (u && true || nat_le 50688 token && (nat_lt token 65536 && nat_le 128 (token % 256))) ≡ true → token ≡ 13 → ⊥
+        by_low : (u : Bool) → nat_le 127 token ≡ u → (u && true || nat_le 50688 token && (nat_lt token 51456 && nat_le 128 (token % 256))) ≡ true → token ≡ 13 → ⊥
         by_low true low is e = omega (arith, leb-true 127 token low, e)
-        by_low false low is e = let high = leb-true 50688 token (and_parts (nat_le 50688 token) (nat_lt token 65536 && nat_le 128 (token % 256)) is).0 in omega (arith, high, e)
+        by_low false low is e = let high = leb-true 50688 token (and_parts (nat_le 50688 token) (nat_lt token 51456 && nat_le 128 (token % 256)) is).0 in omega (arith, high, e)
     by_size false large is = by_low (nat_le 127 token) is
       where
-        by_low : (u : Bool) → (u && false || nat_le 50688 token && (nat_lt token 65536 && nat_le 128 (token % 256))) ≡ true → Clean (token / 256 ∷ token % 256 ∷ [])
+        by_low : (u : Bool) → (u && false || nat_le 50688 token && (nat_lt token 51456 && nat_le 128 (token % 256))) ≡ true → Clean (token / 256 ∷ token % 256 ∷ [])
         by_low true is = pair is
           where
-            pair : (nat_le 50688 token && (nat_lt token 65536 && nat_le 128 (token % 256))) ≡ true → Clean (token / 256 ∷ token % 256 ∷ [])
+            pair : (nat_le 50688 token && (nat_lt token 51456 && nat_le 128 (token % 256))) ≡ true → Clean (token / 256 ∷ token % 256 ∷ [])
             pair is =
-                let high = and_parts (nat_le 50688 token) (nat_lt token 65536 && nat_le 128 (token % 256)) is in
+                let high = and_parts (nat_le 50688 token) (nat_lt token 51456 && nat_le 128 (token % 256)) is in
                 let least = leb-true 50688 token high.0 in
-                let second = leb-true 128 (token % 256) (and_parts (nat_lt token 65536) (nat_le 128 (token % 256)) high.1).1 in
+                let second = leb-true 128 (token % 256) (and_parts (nat_lt token 51456) (nat_le 128 (token % 256)) high.1).1 in
                 ((λ e. omega (arith, least, e)), ((λ e. omega (arith, second, e)), tt))
         by_low false is = pair is
           where
-            pair : (nat_le 50688 token && (nat_lt token 65536 && nat_le 128 (token % 256))) ≡ true → Clean (token / 256 ∷ token % 256 ∷ [])
+            pair : (nat_le 50688 token && (nat_lt token 51456 && nat_le 128 (token % 256))) ≡ true → Clean (token / 256 ∷ token % 256 ∷ [])
             pair is =
-                let high = and_parts (nat_le 50688 token) (nat_lt token 65536 && nat_le 128 (token % 256)) is in
+                let high = and_parts (nat_le 50688 token) (nat_lt token 51456 && nat_le 128 (token % 256)) is in
                 let least = leb-true 50688 token high.0 in
-                let second = leb-true 128 (token % 256) (and_parts (nat_lt token 65536) (nat_le 128 (token % 256)) high.1).1 in
+                let second = leb-true 128 (token % 256) (and_parts (nat_lt token 51456) (nat_le 128 (token % 256)) high.1).1 in
                 ((λ e. omega (arith, least, e)), ((λ e. omega (arith, second, e)), tt))
 
 clean_at : (place : Place) (token : ℕ) → Clean (token_bytes token) → Clean (token_bytes (token_at place token))
@@ -143,9 +148,10 @@ clean_or : (text : List ℕ) (a b : Option Part) → IsCleanPart text a → IsCl
 clean_or text None b is other = other
 clean_or text (Some part) b is other = is
 
-clean_of : (early : Option Part) (place : Place) (text : List ℕ) (found : Option Part) → IsCleanPart text early → FirstOf early place text found → IsCleanPart text found
-clean_of (Some part) place text found is first = subst (IsCleanPart text) (sym first) is
-clean_of None place text found is first =
+clean_of : (early : Early) (place : Place) (text : List ℕ) (found : Option Part) → IsCleanEarly text early → FirstOf early place text found → IsCleanPart text found
+clean_of (Alone part) place text found is first = subst (IsCleanPart text) (sym first) is
+clean_of (Before (Some part)) place text found is first = subst (IsCleanPart text) (sym first) is
+clean_of (Before None) place text found is first =
     subst (IsCleanPart text) (sym first.2) (clean_or text (worded place first.0) (or_else (row text) (single text)) (clean_worded place text first.0 first.1) (clean_or text (row text) (single text) (clean_row_part text) (clean_single text)))
 
 clean_parts : (place : Place) (text : List ℕ) (parts : List Part) → CutInto place text parts → Clean (parts_bytes text parts)

@@ -8,6 +8,7 @@ use Rattle.basv_crunch.specs.declared.error.CrunchError.{CrunchError}
 use Rattle.basv_crunch.specs.declared.error.CrunchError.TheVariants as errors
 use Rattle.basv_crunch.specs.Pieces.{pieces, is_blank}
 use Rattle.basv_crunch.specs.Crunched.{IsLineOf, AreLines, kept_pieces, IsText, IsFileOf, ExplainsCrunch}
+use Rattle.basv_crunch.proofs.PieceLines.{one_file}
 use Rattle.basv_crunch.specs.Adding.{AddsPiece, IsBadPiece, IsFinished}
 
 pub lines-append : (a b : List (List ℕ)) (x y : List Line) → AreLines a x → AreLines b y → AreLines (a ++ b) (x ++ y)
@@ -95,3 +96,8 @@ file_or_not text lines lines' (Err error) is same ok = tt
 pub finished_or_not : (text : List ℕ) (lines lines' : List Line) (answer : Result (Vec ℕ Global) CrunchError) → IsText text lines → lines' ≡ lines → IfErr answer (IsFinished lines') → IfErr answer (ExplainsCrunch text)
 finished_or_not text lines lines' (Ok file) is same err = tt
 finished_or_not text lines lines' (Err error) is same err = finished text lines error is (subst (λ l. IsFinished l error) same err)
+
+-- the file is the only one
+pub only_or_not : (text : List ℕ) (answer : Result (Vec ℕ Global) CrunchError) → IfOk answer (λ file. IsFileOf text file.items) → IfOk answer (λ file. (other : List ℕ) → IsFileOf text other → other ≡ file.items)
+only_or_not text (Ok file) is = λ other also. one_file text other file.items also is
+only_or_not text (Err error) is = tt

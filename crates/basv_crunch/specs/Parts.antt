@@ -36,13 +36,18 @@ is_reference text = (not (begins_with 48 text) || (length (front_digits 10 text)
 abbrev pub referred : List ℕ → Option Part
 referred text = if is_reference text then unless_none (kinds.Reference (front_value 10 text)) (length (front_digits 10 text)) else None
 
--- what stands between quotation marks, in a tail, behind FN or PROC, and where a reference is awaited
-abbrev pub by_place : Place → List ℕ → Option Part
-by_place places.Quotes text = kept text
-by_place places.Tail text = kept text
-by_place places.Call text = called text
-by_place places.Awaiting text = referred text
-by_place place text = None
+-- What the first three rules give: nothing but this, or this before what the others give.
+pub data Early : Type 0 where
+  Alone : (found : Option Part) → Early
+  Before : (found : Option Part) → Early
+
+-- the first three rules, by the place: between quotation marks and in a tail no other rule applies
+abbrev pub by_place : Place → List ℕ → Early
+by_place places.Quotes text = Alone (kept text)
+by_place places.Tail text = Alone (kept text)
+by_place places.Call text = Before (called text)
+by_place places.Awaiting text = Before (referred text)
+by_place place text = Before None
 
 -- ELSE has a token of its own where only spaces stand before it
 abbrev pub token_at : Place → ℕ → ℕ
@@ -78,9 +83,10 @@ abbrev pub by_text : Place → Option (ℕ × ℕ) → List ℕ → Option Part
 by_text place word text = or_else (worded place word) (or_else (row text) (single text))
 
 -- the part at the front of a text by the first rule that fits, or that none fits
-abbrev pub FirstOf : Option Part → Place → List ℕ → Option Part → Type 0
-FirstOf (Some part) place text found = found ≡ Some part
-FirstOf None place text found = (word : Option (ℕ × ℕ)) × LongestWord text word × (found ≡ by_text place word text)
+abbrev pub FirstOf : Early → Place → List ℕ → Option Part → Type 0
+FirstOf (Alone part) place text found = found ≡ part
+FirstOf (Before (Some part)) place text found = found ≡ Some part
+FirstOf (Before None) place text found = (word : Option (ℕ × ℕ)) × LongestWord text word × (found ≡ by_text place word text)
 
 abbrev pub FirstPart : Place → List ℕ → Option Part → Type 0
 FirstPart place text found = FirstOf (by_place place text) place text found

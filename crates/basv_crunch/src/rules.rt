@@ -2,7 +2,7 @@
 ghost use Rattle.std.specs.Prelude.{◌≡◌, ◌^◌, min, length, take_while};
 ghost use Rattle.bv_num.specs.Value.{front_digits, front_value};
 ghost use Rattle.bv_token.specs.Names.{is_in_name};
-ghost use Rattle.basv_crunch.specs.Parts.{unless_none, kept, called, is_reference, referred, by_place, token_at, worded, row, single, FirstPart, behind_word, behind_space, behind_comma, behind_single, behind_kept, behind_part};
+ghost use Rattle.basv_crunch.specs.Parts.{unless_none, kept, called, is_reference, referred, token_at, worded, row, single, Before, FirstOf, FirstPart, behind_word, behind_space, behind_comma, behind_single, behind_kept, behind_part};
 
 use crate::part::{Kind, Part, Place};
 use bv_base::LINE_NUMBERS;
@@ -71,17 +71,6 @@ fn referred(text: &[u8]) -> Option<Part>
     unless_none(Kind::Reference(digits.value as u16), digits.count)
 }
 
-fn by_place(place: Place, text: &[u8]) -> Option<Part>
-    ensures { result ≡ by_place place text.now }
-{
-    match place {
-        Place::Quotes | Place::Tail => kept(text),
-        Place::Call => called(text),
-        Place::Awaiting => referred(text),
-        Place::Start | Place::Code | Place::Referred => None,
-    }
-}
-
 fn token_at(place: Place, token: u16) -> u16
     ensures { result ≡ token_at place token }
 {
@@ -119,11 +108,11 @@ fn single(text: &[u8]) -> Option<Part>
     }
 }
 
-/// The part at the front of a text that begins at this place, by the first rule that fits.
-pub fn first_part(place: Place, text: &[u8]) -> Option<Part>
-    ensures { FirstPart place text.now result }
+/// What was found by the rules that look at the place, or what the others find.
+fn or_by_text(early: Option<Part>, place: Place, text: &[u8]) -> Option<Part>
+    ensures { FirstOf (Before early) place text.now result }
 {
-    if let Some(part) = by_place(place, text) {
+    if let Some(part) = early {
         return Some(part);
     }
     if let Some((size, token)) = longest_word(text) {
@@ -135,6 +124,18 @@ pub fn first_part(place: Place, text: &[u8]) -> Option<Part>
     match row(text) {
         Some(part) => Some(part),
         None => single(text),
+    }
+}
+
+/// The part at the front of a text that begins at this place, by the first rule that fits.
+pub fn first_part(place: Place, text: &[u8]) -> Option<Part>
+    ensures { FirstPart place text.now result }
+{
+    match place {
+        Place::Quotes | Place::Tail => kept(text),
+        Place::Call => or_by_text(called(text), place, text),
+        Place::Awaiting => or_by_text(referred(text), place, text),
+        Place::Start | Place::Code | Place::Referred => or_by_text(None, place, text),
     }
 }
 

@@ -1,7 +1,8 @@
 //! The file of a text.
-ghost use Rattle.std.specs.Prelude.{◌≡◌, ◌+◌, ◌≤◌, ◌<◌, ◌^◌, length, All, IfOk, IfErr, OnOk};
+ghost use Rattle.std.specs.Prelude.{◌≡◌, ℕ, List, ◌+◌, ◌≤◌, ◌<◌, ◌^◌, length, All, IfOk, IfErr, OnOk};
 ghost use Rattle.token_file.specs.Lines.{IsLine, file_of, Lines, HasOneReading};
 ghost use Rattle.basv_crunch.specs.Crunched.{IsFileOf, ExplainsCrunch};
+ghost use Rattle.basv_crunch.specs.NormalForm.{ReadsBack};
 ghost use Rattle.basv_crunch.specs.Adding.{AddsPiece, IsBadPiece, IsFinished};
 
 use crate::error::CrunchError;
@@ -54,6 +55,8 @@ fn finish(alloc: Global, lines: &[Line]) -> Result<Vec<u8>, CrunchError>
 pub fn crunch(alloc: Global, text: &[u8]) -> Result<Vec<u8>, CrunchError>
     requires { length text.now < 2 ^ 32 }
     ensures ok { IfOk result (λ file. IsFileOf text.now file.items) }
+    ensures only { IfOk result (λ file. (other : List ℕ) → IsFileOf text.now other → other ≡ file.items) }
+    ensures reading { IfOk result (λ file. ReadsBack text.now file.items) }
     ensures err { IfErr result (ExplainsCrunch text.now) }
 {
     let mut lines = Vec::new(alloc);

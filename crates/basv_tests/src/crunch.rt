@@ -73,7 +73,10 @@ fn texts_are_cut(rt: HostRuntime) -> Result<(), Fail> {
     let want = b"\x0d\x00\x0a\x05\xe0\x0d\x00\x14\x04\x0d\xff".as_slice();
     assert_eq!(rt; file_of(alloc, b"10END\n20\n").as_slice(), want);
     assert_eq!(rt; file_of(alloc, b"10END\r\n20\r\n").as_slice(), want);
-    assert_eq!(rt; file_of(alloc, b"\n  \n  10END\n\r\n00020").as_slice(), want);
+    assert_eq!(rt;
+        file_of(alloc, b"\n  \n  10END\n\r\n00020").as_slice(),
+        want
+    );
     assert_eq!(rt; file_of(alloc, b"").as_slice(), b"\x0d\xff".as_slice());
     assert_eq!(rt; bad_piece(alloc, b"PRINT 1"), 1);
     assert_eq!(rt; bad_piece(alloc, b"10\n\n  \nPRINT 1"), 4);
@@ -101,29 +104,25 @@ fn colons(alloc: Global, count: usize) -> Result<Vec<u8>, AllocError>
     Ok(text)
 }
 
-/// Lines of 247 colons each, whose records have 251 bytes.
-fn long_text(alloc: Global, lines: usize, last: usize) -> Result<Vec<u8>, AllocError>
-    requires { last < 2 ^ 32 }
-{
+/// 65,534 lines without a body, whose records have four bytes each, and a line.
+fn long_text(alloc: Global, last: &[u8]) -> Result<Vec<u8>, AllocError> {
     let mut text = Vec::new(alloc);
-    let line = colons(alloc, 247)?;
-    for _ in 0..lines {
-        text.extend_from_slice(line.as_slice())?;
+    for _ in 0..65_534 {
+        text.extend_from_slice(b"1\n")?;
     }
-    let line = colons(alloc, last)?;
-    text.extend_from_slice(line.as_slice())?;
+    text.extend_from_slice(last)?;
     Ok(text)
 }
 
-/// 1,044 records of 251 bytes are 262,044, so 98 more and the end's two make the longest file.
+/// 65,534 records of four bytes are 262,136, so a record of six and the end's two make the longest file.
 #[test]
 fn lengths_are_limited(rt: HostRuntime) -> Result<(), Fail> {
     let alloc = rt.alloc();
     assert_eq!(rt; bad_piece(alloc, colons(alloc, 251)?.as_slice()), 0);
     assert_eq!(rt; bad_piece(alloc, colons(alloc, 252)?.as_slice()), 1);
-    let longest = long_text(alloc, 1044, 94)?;
+    let longest = long_text(alloc, b"1==")?;
     assert_eq!(rt; file_of(alloc, longest.as_slice()).len(), 262_144);
-    let longer = long_text(alloc, 1044, 95)?;
+    let longer = long_text(alloc, b"1===")?;
     if longer.len() < 0x1_0000_0000 {
         assert!(rt; matches!(crunch(alloc, longer.as_slice()), Err(CrunchError::TooLong)));
     }
@@ -138,8 +137,10 @@ fn comes_back(alloc: Global, text: &[u8], listing: &[u8]) -> Result<bool, Fail> 
     }
     match read_file(alloc, file.as_slice()) {
         Ok(lines) => match list_lines(alloc, lines.as_slice()) {
-            Ok(listed) => Ok(listed.as_slice() == listing
-                && file_of(alloc, listing).as_slice() == file.as_slice()),
+            Ok(listed) => Ok(
+                listed.as_slice() == listing
+                    && file_of(alloc, listing).as_slice() == file.as_slice(),
+            ),
             Err(_) => Ok(false),
         },
         Err(_) => Ok(false),

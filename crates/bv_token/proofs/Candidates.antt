@@ -60,9 +60,9 @@ complete token word e = cases (nat_lt token 256) refl e
             not_below true is = absurd (omega (arith, past, ltb-true k 129 is))
             not_below false is = is
 
--- a token's number: a byte from 127 on, or a pair of which both bytes are 128 or more
+-- a token's number: a byte from 127 on, or a pair with a first byte from 198 to 200 and a second from 128 on
 abbrev pub is_token_number : ℕ → Bool
-is_token_number token = nat_le 127 token && nat_lt token 256 || nat_le 50688 token && (nat_lt token 65536 && nat_le 128 (token % 256))
+is_token_number token = nat_le 127 token && nat_lt token 256 || nat_le 50688 token && (nat_lt token 51456 && nat_le 128 (token % 256))
 
 all_numbers : all_below 135 (λ k. is_token_number (candidate k)) ≡ true
 all_numbers = refl
