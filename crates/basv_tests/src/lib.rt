@@ -5,6 +5,8 @@
 #[cfg(test)]
 mod board;
 #[cfg(test)]
+mod crunch;
+#[cfg(test)]
 mod instructions;
 #[cfg(test)]
 mod memory;

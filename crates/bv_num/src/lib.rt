@@ -15,4 +15,4 @@ pub use bits::{and, eor, not, or};
 pub use comparisons::{equal, greater, greater_or_equal, less, less_or_equal, not_equal};
 pub use digits::{Digits, LONGEST_NUMBER, decimal, digit_byte, hex};
 pub use shifts::{ShiftKind, shift};
-pub use value::{DigitRun, data_value, digit_run, value_of};
+pub use value::{DigitRun, data_value, digit_run, skip_spaces, value_of};

@@ -8,7 +8,7 @@ use crate::arithmetic::{TOO_BIG, narrow};
 const WORD_VALUES: u64 = 0x1_0000_0000;
 
 /// The text without the spaces that begin it.
-fn skip_spaces(text: &[u8]) -> &[u8]
+pub fn skip_spaces(text: &[u8]) -> &[u8]
     ensures { result.now ≡ behind_spaces text.now }
 {
     let mut rest = text;

@@ -1,5 +1,5 @@
 -- The longest of the words of the tokens before a place is that of all tokens, once all places were seen.
-use Rattle.std.proofs.Common.{◌≡◌, ◌⊎◌, inl, inr, ℕ, suc, ◌+◌, ◌-◌, ◌*◌, ◌/◌, ◌%◌, ◌<◌, ◌≤◌, Bool, true, false, ◌&&◌, ◌==◌, nat_lt, if◌then◌else◌, List, [], ◌∷◌, length, map, slice_index, Option, Some, None, MatchOption, refl, sym, ap, subst, ◌∙◌, arith, ltb-true, ltb-false, lt-ltb, eqb-true}
+use Rattle.std.proofs.Common.{◌≡◌, ◌⊎◌, inl, inr, ℕ, suc, ◌+◌, ◌-◌, ◌*◌, ◌/◌, ◌%◌, ◌<◌, ◌≤◌, Bool, true, false, ◌&&◌, ◌||◌, ◌==◌, nat_le, nat_lt, if◌then◌else◌, List, [], ◌∷◌, length, map, slice_index, Option, Some, None, MatchOption, refl, sym, ap, subst, ◌∙◌, arith, ltb-true, ltb-false, lt-ltb, eqb-true}
 use Rattle.std.proofs.lemmas.Bool.{and_parts, cases_lt}
 use Rattle.bv_base.proofs.Computed.{all_below, all_below-at}
 use Rattle.bv_token.specs.Tokens.{Pair, keyword_of_token, keyword_of_pair, pairs}
@@ -59,6 +59,16 @@ complete token word e = cases (nat_lt token 256) refl e
             not_below : (t : Bool) → nat_lt k 129 ≡ t → nat_lt k 129 ≡ false
             not_below true is = absurd (omega (arith, past, ltb-true k 129 is))
             not_below false is = is
+
+-- a token's number: a byte from 127 on, or a pair with a first byte from 198 to 200 and a second from 128 on
+abbrev pub is_token_number : ℕ → Bool
+is_token_number token = nat_le 127 token && nat_lt token 256 || nat_le 50688 token && (nat_lt token 51456 && nat_le 128 (token % 256))
+
+all_numbers : all_below 135 (λ k. is_token_number (candidate k)) ≡ true
+all_numbers = refl
+
+pub token_number : (token : ℕ) (word : List ℕ) → word_of token ≡ Some word → is_token_number token ≡ true
+token_number token word e = let k = complete token word e in ap is_token_number (sym k.2) ∙ all_below-at 135 (λ k. is_token_number (candidate k)) all_numbers k.0 k.1
 
 -- a token's word has one size
 one_size : (text : List ℕ) (token m n : ℕ) → BeginsWord text token m → BeginsWord text token n → m ≡ n
@@ -129,3 +139,19 @@ best_of_all text place (Some old) past best = (
   best.0,
   λ token size b. (let k = complete token b.word b.is_word in elim (best.2 k.0 size (omega (arith, k.1, past)) (subst (λ t. BeginsWord text t size) (sym k.2) b)) [ inl short ↦ inl short | inr same ↦ inr (same.0, omega (arith, same.1, k.2)) ]),
 )
+
+-- a text has one longest word
+pub one_longest : (text : List ℕ) (a b : Option (ℕ × ℕ)) → LongestWord text a → LongestWord text b → a ≡ b
+one_longest text None None p q = refl
+one_longest text None (Some b) p q = absurd (p b.1 b.0 q.0)
+one_longest text (Some a) None p q = absurd (q a.1 a.0 p.0)
+one_longest text (Some a) (Some b) p q = by_order (p.1 b.1 b.0 q.0) (q.1 a.1 a.0 p.0)
+  where
+    by_order : (b.0 < a.0) ⊎ ((b.0 ≡ a.0) × (a.1 ≤ b.1)) → (a.0 < b.0) ⊎ ((a.0 ≡ b.0) × (b.1 ≤ a.1)) → Some a ≡ Some b
+    by_order (inl less) (inl more) = absurd (omega (arith, less, more))
+    by_order (inl less) (inr same) = absurd (omega (arith, less, same.0))
+    by_order (inr same) (inl more) = absurd (omega (arith, same.0, more))
+    by_order (inr one) (inr other) =
+        let sizes : a.0 ≡ b.0 = other.0 in
+        let tokens : a.1 ≡ b.1 = omega (arith, one.1, other.1) in
+        λ i. Some (sizes i, tokens i)

@@ -52,6 +52,7 @@ begins_word text word token some is first counts = record {
   is_word = is_word token word some is;
   spelled = splits text word first;
   size_is = refl;
+  some = some;
   counts = counts;
 }
 

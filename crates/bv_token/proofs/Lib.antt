@@ -1,4 +1,4 @@
-mod Candidates
+pub mod Candidates
 mod CountedWords
-mod References
+pub mod References
 pub mod Tables

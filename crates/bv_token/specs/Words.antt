@@ -1,5 +1,5 @@
 -- The keyword at the front of a text, for tokenising it. When a word counts is this project's own.
-use Rattle.std.specs.Prelude.{◌≡◌, ◌⊎◌, ℕ, ◌/◌, ◌%◌, ◌<◌, ◌≤◌, Bool, true, not, ◌||◌, nat_lt, List, [], ◌∷◌, ◌++◌, length, Option, Some, None, bytes_eq, codes, if◌then◌else◌}
+use Rattle.std.specs.Prelude.{◌≡◌, ◌≢◌, ◌⊎◌, ℕ, ◌/◌, ◌%◌, ◌<◌, ◌≤◌, Bool, true, not, ◌||◌, nat_lt, List, [], ◌∷◌, ◌++◌, length, Option, Some, None, bytes_eq, codes, if◌then◌else◌}
 use Rattle.std.specs.List.{list_any}
 use Rattle.bv_token.specs.Names.{is_in_name}
 use Rattle.bv_token.specs.Tokens.{words, keyword_of_token, keyword_of_pair, pairs}
@@ -21,13 +21,14 @@ abbrev pub ends_name : List ℕ → Bool
 ends_name [] = true
 ends_name (c ∷ rest) = not (is_in_name c)
 
--- The word of a token begins the text, has so many bytes, and counts.
+-- The word of a token begins the text, has this size, and counts.
 pub record BeginsWord (text : List ℕ) (token size : ℕ) : Type 0 where
   pub word : List ℕ
   pub rest : List ℕ
   pub is_word : word_of token ≡ Some word
   pub spelled : text ≡ word ++ rest
   pub size_is : length word ≡ size
+  pub some : size ≢ 0
   pub counts : not (needs_end word) || ends_name rest ≡ true
 
 -- the longest word that begins the text and counts, by its size and its smallest token; or that there is none

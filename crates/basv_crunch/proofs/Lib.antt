@@ -1,0 +1,10 @@
+mod Rows
+mod FirstParts
+mod Bodies
+mod PieceLines
+mod LineEnds
+mod Texts
+mod LineBytes
+mod Numbers
+mod Shown
+mod ListedParts

@@ -1,0 +1,5 @@
+pub mod Pieces
+pub mod Parts
+pub mod Crunched
+pub mod NormalForm
+pub mod Adding
