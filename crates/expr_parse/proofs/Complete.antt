@@ -28,7 +28,7 @@ use Rattle.expr_parse.specs.Parse.{Front, Parser, on_front, or_front, on_some, c
 use Rattle.expr_parse.proofs.Fronts.{Holds, of_some}
 use Rattle.expr_parse.proofs.Sound.{expression_at, OffsetAt, offset_at}
 use Rattle.expr_parse.proofs.GoingOn.{op_level_small, left_level_small, shorter_front, num_on_answers, text_on_answers, text_on_stops, op_level, pointed}
-use Rattle.expr_parse.proofs.Operands.{alone_operand, alone_text_operand, before_operand, before_text_operand, text_before_operand, part_operand, bracket_operand, instr_operand, middle_operand, copies_operand, hexadecimal_operand, function_operand, text_function_operand, simple_operand, element_operand, text_simple_operand, text_element_operand, last_subscript_is, more_subscripts_are, last_argument_is, more_arguments_are, subscripts_are, arguments_are, end_absent, end_present, number_either, text_either, placed_sum, num_on_more, text_on_more, text_on_compared, compared_is, decimal_operand}
+use Rattle.expr_parse.proofs.Equations.{alone_operand, alone_text_operand, before_operand, before_text_operand, text_before_operand, part_operand, bracket_operand, instr_operand, middle_operand, copies_operand, hexadecimal_operand, function_operand, text_function_operand, simple_operand, element_operand, text_simple_operand, text_element_operand, last_subscript_is, more_subscripts_are, last_argument_is, more_arguments_are, subscripts_are, arguments_are, end_absent, end_present, number_either, text_either, placed_sum, num_on_more, text_on_more, text_on_compared, compared_is, decimal_operand}
 
 -- ---- lengths
 

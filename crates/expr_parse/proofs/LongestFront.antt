@@ -1,5 +1,7 @@
 -- The laws of expressions.
-use Rattle.std.proofs.Common.{◌≡◌, ℕ, suc, ◌≤◌, Bool, true, false, List, [], ◌++◌, length, Some, None, refl, ap, sym, subst, ◌∙◌, length-append, lit≤, lit<, arith}
+use Rattle.std.proofs.Common.{Option, ◌≡◌, ℕ, suc, ◌≤◌, Bool, true, false, List, [], ◌++◌, length, Some, None, refl, ap, sym, subst, ◌∙◌, length-append, lit≤, lit<, arith, ◌-◌, drop, Bor}
+use Rattle.std.proofs.Math.Seq.{drop-append_seam}
+use Rattle.std.specs.Option.{option_map}
 use Rattle.bas_ast.specs.declared.expressions.NumExpr.{NumExpr}
 use Rattle.bas_ast.specs.declared.expressions.StrExpr.{StrExpr}
 use Rattle.bas_ast.specs.declared.terminals.Terminal.{Terminal}
@@ -116,3 +118,52 @@ num_none r e = λ y q f. let h = before_number r y q f in let wrong : false ≡ 
 pub text_none : (r : List Terminal) → p.longest_text r ≡ None → NoFront (IsStr 4) r
 unfolding p.longest_text is_there
 text_none r e = λ y q f. let h = before_text r y q f in let wrong : false ≡ true = ap is_there (sym e ∙ h.2) in cc
+
+-- ---- answers as numbers of terminals
+
+after_front : {A : Type 0} (Is : List Terminal → A → Type 0) (r : List Terminal) (x : A) (q : List Terminal) → Fronts Is r x q
+    → (length q ≤ length r) × (q ≡ drop (length r - length q) r)
+after_front Is r x q f =
+    let size = ap length f.split in
+    let parts = length-append f.front q in
+    let count : length r - length q ≡ length f.front = omega arith in
+    (omega arith, sym (ap (λ n. drop n r) count ∙ (ap (λ z. drop (length f.front) z) f.split ∙ drop-append_seam f.front q)))
+
+counted : {A : Type 0} (Is : List Terminal → A → Type 0) (r : List Terminal) (x : A) (q : List Terminal) → Longest Is r x q
+    → (length r - length q ≤ length r) × Longest Is r x (drop (length r - length q) r)
+counted Is r x q h = let e = after_front Is r x q h.here in (omega arith, subst (λ z. Longest Is r x z) e.1 h)
+
+-- what a slice's answer says
+answered : {A : Type 0} (m : Front A) (f : Option (A × Bor (List Terminal))) (x : A) (rest : Bor (List Terminal))
+    → option_map (λ z. (z.0, z.1.now)) f ≡ m → f ≡ Some (x, rest) → m ≡ Some (x, rest.now)
+answered m f x rest h e = sym h ∙ ap (λ z. option_map (λ w. (w.0, w.1.now)) z) e
+
+unanswered : {A : Type 0} (m : Front A) (f : Option (A × Bor (List Terminal)))
+    → option_map (λ z. (z.0, z.1.now)) f ≡ m → f ≡ None → m ≡ None
+unanswered m f h e = sym h ∙ ap (λ z. option_map (λ w. (w.0, w.1.now)) z) e
+
+pub num_shorter : (r : List Terminal) (f : Option (NumExpr × Bor (List Terminal))) (x : NumExpr) (rest : Bor (List Terminal))
+    → option_map (λ z. (z.0, z.1.now)) f ≡ p.longest_num r → f ≡ Some (x, rest) → length rest.now ≤ length r
+num_shorter r f x rest h e = (after_front (IsNum 1) r x rest.now (num_found r x rest.now (answered _ f x rest h e)).here).0
+
+pub num_counted : (r : List Terminal) (f : Option (NumExpr × Bor (List Terminal))) (x : NumExpr) (rest : Bor (List Terminal))
+    → option_map (λ z. (z.0, z.1.now)) f ≡ p.longest_num r → f ≡ Some (x, rest)
+    → (length r - length rest.now ≤ length r) × Longest (IsNum 1) r x (drop (length r - length rest.now) r)
+num_counted r f x rest h e = counted (IsNum 1) r x rest.now (num_found r x rest.now (answered _ f x rest h e))
+
+pub num_outside : (r : List Terminal) (f : Option (NumExpr × Bor (List Terminal)))
+    → option_map (λ z. (z.0, z.1.now)) f ≡ p.longest_num r → f ≡ None → NoFront (IsNum 1) r
+num_outside r f h e = num_none r (unanswered _ f h e)
+
+pub text_shorter : (r : List Terminal) (f : Option (StrExpr × Bor (List Terminal))) (x : StrExpr) (rest : Bor (List Terminal))
+    → option_map (λ z. (z.0, z.1.now)) f ≡ p.longest_text r → f ≡ Some (x, rest) → length rest.now ≤ length r
+text_shorter r f x rest h e = (after_front (IsStr 4) r x rest.now (text_found r x rest.now (answered _ f x rest h e)).here).0
+
+pub text_counted : (r : List Terminal) (f : Option (StrExpr × Bor (List Terminal))) (x : StrExpr) (rest : Bor (List Terminal))
+    → option_map (λ z. (z.0, z.1.now)) f ≡ p.longest_text r → f ≡ Some (x, rest)
+    → (length r - length rest.now ≤ length r) × Longest (IsStr 4) r x (drop (length r - length rest.now) r)
+text_counted r f x rest h e = counted (IsStr 4) r x rest.now (text_found r x rest.now (answered _ f x rest h e))
+
+pub text_outside : (r : List Terminal) (f : Option (StrExpr × Bor (List Terminal)))
+    → option_map (λ z. (z.0, z.1.now)) f ≡ p.longest_text r → f ≡ None → NoFront (IsStr 4) r
+text_outside r f h e = text_none r (unanswered _ f h e)

@@ -8,6 +8,7 @@ use Rattle.bas_ast.specs.declared.expressions.BinaryOp.TheVariants as op
 use Rattle.bas_ast.specs.declared.expressions.Comparison.{Comparison}
 use Rattle.bas_ast.specs.declared.expressions.NumExpr.{NumExpr}
 use Rattle.bas_ast.specs.declared.expressions.NumExpr.TheVariants as num
+use Rattle.bas_ast.specs.declared.expressions.NumberFormat.{NumberFormat}
 use Rattle.bas_ast.specs.declared.expressions.NumberFormat.TheVariants as format
 use Rattle.bas_ast.specs.declared.expressions.Side.{Side}
 use Rattle.bas_ast.specs.declared.expressions.StrExpr.{StrExpr}
@@ -15,6 +16,7 @@ use Rattle.bas_ast.specs.declared.expressions.StrExpr.TheVariants as str
 use Rattle.bas_ast.specs.declared.expressions.Variable.{Variable}
 use Rattle.bas_ast.specs.declared.expressions.Variable.TheVariants as var
 use Rattle.bas_ast.specs.declared.expressions.Width.{Width}
+use Rattle.bas_ast.specs.declared.keywords.Keyword.{Keyword}
 use Rattle.bas_ast.specs.declared.keywords.Keyword.TheVariants as word
 use Rattle.bas_ast.specs.declared.terminals.Terminal.{Terminal}
 use Rattle.bas_ast.specs.declared.terminals.Terminal.TheVariants as t
@@ -169,13 +171,19 @@ module _ (inner : ℕ → Parser Found) where
   unfoldable pub bracket : Parser Found
   bracket r = on_front (inner 1 r) (λ x q. closed (bracketed x) q)
 
+  -- INSTR( after its first string
+  abbrev pub instr_from : StrExpr → Parser Found
+  instr_from y r = on_front (text 4 r) (λ z q. on_front (end q) (λ m q1. Some (found.Number 7 (num.Instr y z m), q1)))
+
   unfoldable pub instr : Parser Found
-  instr r = on_front (text 4 r) (λ y q. on_some (after_comma q) (λ q1. on_front (text 4 q1) (λ z q2. on_front (end q2) (λ m q3.
-      Some (found.Number 7 (num.Instr y z m), q3)))) None)
+  instr r = on_front (text 4 r) (λ y q. on_some (after_comma q) (λ q1. instr_from y q1) None)
+
+  -- MID$( after its string
+  abbrev pub middle_from : StrExpr → Parser Found
+  middle_from y r = on_front (number 1 r) (λ x q. on_front (end q) (λ m q1. Some (found.Text (str.Middle y x m), q1)))
 
   unfoldable pub middle : Parser Found
-  middle r = on_front (text 4 r) (λ y q. on_some (after_comma q) (λ q1. on_front (number 1 q1) (λ x q2. on_front (end q2) (λ m q3.
-      Some (found.Text (str.Middle y x m), q3)))) None)
+  middle r = on_front (text 4 r) (λ y q. on_some (after_comma q) (λ q1. middle_from y q1) None)
 
   unfoldable pub copies : Parser Found
   copies r = on_front (number 1 r) (λ x q. on_some (after_comma q) (λ q1. on_front (text 4 q1) (λ y q2.
@@ -185,31 +193,61 @@ module _ (inner : ℕ → Parser Found) where
   part side r = on_front (text 4 r) (λ y q. on_front (end q) (λ m q1. Some (found.Text (str.Part side y m), q1)))
 
   -- STR$
-  unfoldable pub written : Parser Found
-  written r = on_some (after_tilde r) (λ q. on_front (number 6 q) (λ x q1. Some (found.Text (str.Written format.Hexadecimal x), q1)))
-      (on_front (number 6 r) (λ x q1. Some (found.Text (str.Written format.Decimal x), q1)))
+  abbrev pub written_as : NumberFormat → Parser Found
+  written_as f r = on_front (number 6 r) (λ x q. Some (found.Text (str.Written f x), q))
 
-  -- what begins with a name or has punctuation of its own
+  unfoldable pub written : Parser Found
+  written r = on_some (after_tilde r) (λ q. written_as format.Hexadecimal q) (written_as format.Decimal r)
+
+  -- an array's element, and what begins with it
+  abbrev pub element : ℕ → ℕ → Parser Found
+  element l n r = on_front (subscripts r) (λ xs q. placed l (var.Element n xs) q)
+
+  abbrev pub text_element : ℕ → Parser Found
+  text_element n r = on_front (subscripts r) (λ xs q. Some (found.Text (str.Variable (var.Element n xs)), q))
+
+  abbrev pub function : ℕ → Parser Found
+  function n r = on_front (arguments r) (λ xs q. Some (found.Number 7 (num.Function n xs), q))
+
+  abbrev pub text_function : ℕ → Parser Found
+  text_function n r = on_front (arguments r) (λ xs q. Some (found.Text (str.Function n xs), q))
+
+  -- what begins with a keyword that has punctuation of its own
+  abbrev pub worded : Keyword → Parser Found
+  worded word.Instr r = instr r
+  worded word.Mid r = middle r
+  worded word.Copies r = copies r
+  worded word.Str r = written r
+  worded _ r = None
+
+  -- what begins with a name, a bracket or such a keyword
   unfoldable pub formed : ℕ → Terminal → Parser Found
   formed l (t.IntName n) r = placed l (var.Simple n) r
-  formed l (t.IntArray n) r = on_front (subscripts r) (λ xs q. placed l (var.Element n xs) q)
+  formed l (t.IntArray n) r = element l n r
   formed l (t.StrName n) r = Some (found.Text (str.Variable (var.Simple n)), r)
-  formed l (t.StrArray n) r = on_front (subscripts r) (λ xs q. Some (found.Text (str.Variable (var.Element n xs)), q))
-  formed l (t.NumFunctionOpen n) r = on_front (arguments r) (λ xs q. Some (found.Number 7 (num.Function n xs), q))
-  formed l (t.StrFunctionOpen n) r = on_front (arguments r) (λ xs q. Some (found.Text (str.Function n xs), q))
+  formed l (t.StrArray n) r = text_element n r
+  formed l (t.NumFunctionOpen n) r = function n r
+  formed l (t.StrFunctionOpen n) r = text_function n r
   formed l t.Open r = bracket r
-  formed l (t.Keyword word.Instr) r = instr r
-  formed l (t.Keyword word.Mid) r = middle r
-  formed l (t.Keyword word.Copies) r = copies r
-  formed l (t.Keyword word.Str) r = written r
+  formed l (t.Keyword word) r = worded word r
   formed l _ r = None
+
+  -- a word or a sign, and its operand
+  abbrev pub number_after : (NumExpr → NumExpr) → Parser Found
+  number_after f r = on_front (number 6 r) (λ x q. Some (found.Number 7 (f x), q))
+
+  abbrev pub number_of_text : (StrExpr → NumExpr) → Parser Found
+  number_of_text f r = on_front (text 6 r) (λ y q. Some (found.Number 7 (f y), q))
+
+  abbrev pub text_after : (NumExpr → StrExpr) → Parser Found
+  text_after f r = on_front (number 6 r) (λ x q. Some (found.Text (f x), q))
 
   -- what begins with a word or a sign before an operand
   unfoldable pub prefixed : ℕ → Role → Terminal → Parser Found
   prefixed l k c r =
-      on_some (before_number k) (λ f. on_front (number 6 r) (λ x q. Some (found.Number 7 (f x), q)))
-      (on_some (before_text k) (λ f. on_front (text 6 r) (λ y q. Some (found.Number 7 (f y), q)))
-      (on_some (text_before_number k) (λ f. on_front (number 6 r) (λ x q. Some (found.Text (f x), q)))
+      on_some (before_number k) (λ f. number_after f r)
+      (on_some (before_text k) (λ f. number_of_text f r)
+      (on_some (text_before_number k) (λ f. text_after f r)
       (on_some (takes_part k) (λ side. part side r) (formed l c r))))
 
   -- what begins with a terminal of a role

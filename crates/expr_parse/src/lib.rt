@@ -4,9 +4,18 @@
 #![tactic(auto)]
 
 mod found;
+mod grammar;
 mod laws;
 mod marks;
+mod operands;
+mod operators;
+mod parser;
+mod rows;
+mod top;
+mod trees;
 mod words;
 
 pub use found::Found;
 pub use laws::one_tree;
+pub use parser::{longest_num, longest_text};
+pub use top::{ParseError, front_num, front_text};
