@@ -1,0 +1,86 @@
+//! The keywords of the grammar, but for those that are operators between two operands.
+
+/// A keyword.
+#[derive(Debug, Clone, Copy, PartialEq, Eq, Drop)]
+pub enum Keyword {
+    Abs,
+    Asc,
+    Call,
+    Case,
+    Chr,
+    Cls,
+    Colour,
+    Count,
+    Data,
+    Def,
+    Dim,
+    /// ELSE at the start of a line.
+    BlockElse,
+    /// ELSE elsewhere.
+    Else,
+    End,
+    EndCase,
+    EndIf,
+    EndProc,
+    EndWhile,
+    Erl,
+    Err,
+    Error,
+    False,
+    For,
+    Get,
+    /// GET$
+    GetText,
+    Gosub,
+    Goto,
+    If,
+    Input,
+    /// INSTR(
+    Instr,
+    Int,
+    /// LEFT$(
+    Left,
+    Len,
+    Let,
+    Line,
+    Local,
+    /// MID$(
+    Mid,
+    Mode,
+    Next,
+    Not,
+    Of,
+    Off,
+    On,
+    Otherwise,
+    Print,
+    Quit,
+    Read,
+    Rem,
+    Repeat,
+    Report,
+    Restore,
+    Return,
+    /// RIGHT$(
+    Right,
+    Sgn,
+    Spc,
+    Step,
+    Stop,
+    /// STR$
+    Str,
+    /// STRING$(
+    Copies,
+    Swap,
+    /// TAB(
+    Tab,
+    Then,
+    To,
+    True,
+    Until,
+    Usr,
+    Val,
+    Vdu,
+    When,
+    While,
+}

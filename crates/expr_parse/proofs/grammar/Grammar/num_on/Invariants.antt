@@ -1,0 +1,7 @@
+use Rattle.std.proofs.Common.{◌≡◌, ◌-◌, length}
+use Rattle.expr_parse.specs.Parse.{expression, num_on}
+use Rattle.expr_parse.proofs.grammar.Grammar.num_on.Given as goal
+
+abbrev pub invariant-loop-turn : goal.invariant-loop-turn
+invariant-loop-turn g l =
+    num_on (expression l.self.depth) l.least (length l.list) l.fn.left l.fn.whole l.list ≡ num_on (expression l.self.depth) l.least (l._turn-end - l._turn) l.left l.whole l.rest

@@ -1,0 +1,7 @@
+use Rattle.std.proofs.Common.{◌≡◌, ◌-◌, length}
+use Rattle.expr_parse.specs.Parse.{expression, text_on}
+use Rattle.expr_parse.proofs.grammar.Grammar.text_on.Given as goal
+
+abbrev pub invariant-loop-turn : goal.invariant-loop-turn
+invariant-loop-turn g l =
+    text_on (expression l.self.depth) l.least (length l.list) l.fn.whole l.list ≡ text_on (expression l.self.depth) l.least (l._turn-end - l._turn) l.whole l.rest

@@ -1,0 +1,5 @@
+pub mod Parse
+pub mod Longest
+pub mod Prefixes
+pub mod Nests
+pub mod Parsed

@@ -1,0 +1,21 @@
+//! The parser of expressions: the longest expression at the front of a line's terminals.
+//!
+//! Each rule of the grammar is a function whose contract is an equation with the rule's function in `specs/Parse.antt`.
+#![tactic(auto)]
+
+mod found;
+mod grammar;
+mod laws;
+mod marks;
+mod operands;
+mod operators;
+mod parser;
+mod rows;
+mod top;
+mod trees;
+mod words;
+
+pub use found::Found;
+pub use laws::one_tree;
+pub use parser::{longest_num, longest_text};
+pub use top::{ParseError, front_num, front_text};
