@@ -61,6 +61,7 @@ only_file bytes limits.Parameters count r = absurd r
 only_file bytes limits.Dimensions count r = absurd r
 only_file bytes limits.Input count r = absurd r
 only_file bytes limits.Image count r = absurd r
+only_file bytes limits.Text count r = absurd r
 
 -- a file has one reason at most
 one_reason : (bytes : List ℕ) (a b : Refusal) → HasReason bytes a → HasReason bytes b → a ≡ b

@@ -26,6 +26,7 @@ HasReason bytes (refusals.Limit limits.Parameters count) = ⊥
 HasReason bytes (refusals.Limit limits.Dimensions count) = ⊥
 HasReason bytes (refusals.Limit limits.Input count) = ⊥
 HasReason bytes (refusals.Limit limits.Image count) = ⊥
+HasReason bytes (refusals.Limit limits.Text count) = ⊥
 HasReason bytes refusals.NoMemory = ⊥
 
 -- the file has the reason, or there was no memory

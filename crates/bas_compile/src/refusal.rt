@@ -26,6 +26,8 @@ pub enum Which {
     Input,
     /// Words of an image.
     Image,
+    /// Bytes of a text that is to be tokenised.
+    Text,
 }
 
 /// Why a program or an image is refused.

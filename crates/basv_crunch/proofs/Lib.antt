@@ -8,3 +8,4 @@ mod LineBytes
 mod Numbers
 mod Shown
 mod ListedParts
+pub mod Verdicts

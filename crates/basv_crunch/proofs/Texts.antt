@@ -17,7 +17,7 @@ lines-append [] b (l ∷ x) y first second = absurd first
 lines-append (p ∷ a) b [] y first second = absurd first
 lines-append (p ∷ a) b (l ∷ x) y first second = (first.0, lines-append a b x y first.1 second)
 
-kept-append : (a b : List (List ℕ)) → kept_pieces (a ++ b) ≡ kept_pieces a ++ kept_pieces b
+pub kept-append : (a b : List (List ℕ)) → kept_pieces (a ++ b) ≡ kept_pieces a ++ kept_pieces b
 kept-append a b = filter-append (λ piece. not (is_blank piece)) a b
 
 -- The pieces before the rest of a text are these lines, and the rest's first piece has this number.

@@ -46,6 +46,7 @@ module _ (before after : SeenShelf) (file image : List ℕ) where
   headline (endings.ReadFault name) ends is = cc
   headline endings.WriteFault ends is = cc
   headline (endings.NotImage at) ends is = cc
+  headline (endings.BadText piece) ends is = cc
   headline (endings.Ran end bound) (inl fails) is = absurd fails
   headline (endings.Ran end bound) (inr ends) is = absurd ends.2
 
@@ -65,6 +66,7 @@ module _ (before after : SeenShelf) (file image : List ℕ) where
   complete bytes program (endings.ReadFault name) (inr ends) is accepted calm = absurd ends.2
   complete bytes program endings.WriteFault (inr ends) is accepted calm = absurd (calm ends.2.3)
   complete bytes program (endings.NotImage at) (inr ends) is accepted calm = absurd ends.2
+  complete bytes program (endings.BadText piece) (inr ends) is accepted calm = absurd ends.2
   complete bytes program (endings.Ran end bound) (inr ends) is accepted calm = absurd ends.2
 
   refused : (bytes : List ℕ) (reason : Refusal) (ending : Ending) → EndsCompile before after file image ending → IsContent before after file bytes → Refused bytes reason
@@ -87,6 +89,7 @@ module _ (before after : SeenShelf) (file image : List ℕ) where
       let same = taken_before_is before after file bytes given (NotPut image puts.0 put_errors.Failed) puts.2 tells is in
       absurd (accepted≢refused bytes puts.1.program reason (subst (λ b. Accepted b puts.1.program) same puts.1.accepted) why)
   refused bytes reason (endings.NotImage at) (inr ends) is why = absurd ends.2
+  refused bytes reason (endings.BadText piece) (inr ends) is why = absurd ends.2
   refused bytes reason (endings.Ran end bound) (inr ends) is why = absurd ends.2
 
   missing : (ending : Ending) → EndsCompile before after file image ending → before.content file ≡ Some None → (status_of ending ≡ statuses.ReadFault) ⊎ (status_of ending ≡ statuses.NoMemory)
@@ -101,6 +104,7 @@ module _ (before after : SeenShelf) (file image : List ℕ) where
   unreadable (endings.ReadFault name) (inr ends) is = absurd ends.2
   unreadable endings.WriteFault ends is = cc
   unreadable (endings.NotImage at) ends is = cc
+  unreadable (endings.BadText piece) ends is = cc
   unreadable (endings.Ran end bound) (inl fails) is = absurd fails
   unreadable (endings.Ran end bound) (inr ends) is = absurd ends.2
 

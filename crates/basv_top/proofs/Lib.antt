@@ -6,3 +6,4 @@ mod RunOutputs
 mod CompileFacts
 mod ListFacts
 mod RunFacts
+mod CrunchFacts

@@ -31,6 +31,7 @@ listable bytes lines (refusals.Limit limits.Parameters count) short read why = w
 listable bytes lines (refusals.Limit limits.Dimensions count) short read why = why
 listable bytes lines (refusals.Limit limits.Input count) short read why = why
 listable bytes lines (refusals.Limit limits.Image count) short read why = why
+listable bytes lines (refusals.Limit limits.Text count) short read why = why
 listable bytes lines refusals.NoMemory short read why = why
 
 -- too many bytes are refused for that alone
@@ -51,6 +52,7 @@ unlistable_once bytes (refusals.Malformed at) (refusals.Limit limits.Parameters 
 unlistable_once bytes (refusals.Malformed at) (refusals.Limit limits.Dimensions count) r q = absurd q
 unlistable_once bytes (refusals.Malformed at) (refusals.Limit limits.Input count) r q = absurd q
 unlistable_once bytes (refusals.Malformed at) (refusals.Limit limits.Image count) r q = absurd q
+unlistable_once bytes (refusals.Malformed at) (refusals.Limit limits.Text count) r q = absurd q
 unlistable_once bytes (refusals.Malformed at) refusals.NoMemory r q = absurd q
 unlistable_once bytes (refusals.Outside line) b r q = absurd r
 unlistable_once bytes (refusals.Limit limits.File count) b r q = sym (only_long bytes b r.0 q)
@@ -60,6 +62,7 @@ unlistable_once bytes (refusals.Limit limits.Parameters count) b r q = absurd r
 unlistable_once bytes (refusals.Limit limits.Dimensions count) b r q = absurd r
 unlistable_once bytes (refusals.Limit limits.Input count) b r q = absurd r
 unlistable_once bytes (refusals.Limit limits.Image count) b r q = absurd r
+unlistable_once bytes (refusals.Limit limits.Text count) b r q = absurd r
 unlistable_once bytes refusals.NoMemory b r q = absurd r
 
 module _ (before after : SeenShelf) (out_before out_after : SeenSink) (file : List ℕ) where
@@ -73,6 +76,7 @@ module _ (before after : SeenShelf) (out_before out_after : SeenSink) (file : Li
   listed (endings.ReadFault name) ends is = cc
   listed endings.WriteFault ends is = cc
   listed (endings.NotImage at) ends is = cc
+  listed (endings.BadText piece) ends is = cc
   listed (endings.Ran end bound) (inl fails) is = absurd fails.0
   listed (endings.Ran end bound) (inr ends) is = absurd ends.3
 
@@ -92,6 +96,7 @@ module _ (before after : SeenShelf) (out_before out_after : SeenSink) (file : Li
   complete bytes lines (endings.ReadFault name) (inr ends) is short read calm = absurd ends.3
   complete bytes lines endings.WriteFault (inr ends) is short read calm = absurd (calm ends.3.4)
   complete bytes lines (endings.NotImage at) (inr ends) is short read calm = absurd ends.3
+  complete bytes lines (endings.BadText piece) (inr ends) is short read calm = absurd ends.3
   complete bytes lines (endings.Ran end bound) (inr ends) is short read calm = absurd ends.3
 
   refused : (bytes : List ℕ) (reason : Refusal) (ending : Ending) → EndsList before after out_before out_after file ending → IsContent before after file bytes → Unlistable bytes reason
@@ -114,6 +119,7 @@ module _ (before after : SeenShelf) (out_before out_after : SeenSink) (file : Li
       let same = taken_is before after file bytes given takes.0 takes.1 is in
       absurd (listable bytes ends.0 reason (subst (λ b. length b ≤ file_bytes) same fits) (subst (λ b. Lines b ends.0) same ends.1) why)
   refused bytes reason (endings.NotImage at) (inr ends) is why = absurd ends.3
+  refused bytes reason (endings.BadText piece) (inr ends) is why = absurd ends.3
   refused bytes reason (endings.Ran end bound) (inr ends) is why = absurd ends.3
 
   missing : (ending : Ending) → EndsList before after out_before out_after file ending → before.content file ≡ Some None → (status_of ending ≡ statuses.ReadFault) ⊎ (status_of ending ≡ statuses.NoMemory)
@@ -128,6 +134,7 @@ module _ (before after : SeenShelf) (out_before out_after : SeenSink) (file : Li
   unreadable (endings.ReadFault name) (inr ends) is = absurd ends.3
   unreadable endings.WriteFault ends is = cc
   unreadable (endings.NotImage at) ends is = cc
+  unreadable (endings.BadText piece) ends is = cc
   unreadable (endings.Ran end bound) (inl fails) is = absurd fails.0
   unreadable (endings.Ran end bound) (inr ends) is = absurd ends.3
 
@@ -139,6 +146,7 @@ module _ (before after : SeenShelf) (out_before out_after : SeenSink) (file : Li
   silent (endings.ReadFault name) (inr ends) not_done no_fault = absurd ends.3
   silent endings.WriteFault (inr ends) not_done no_fault = absurd (no_fault refl)
   silent (endings.NotImage at) (inr ends) not_done no_fault = absurd ends.3
+  silent (endings.BadText piece) (inr ends) not_done no_fault = absurd ends.3
   silent (endings.Ran end bound) (inr ends) not_done no_fault = absurd ends.3
 
   pub lists : (ending : Ending) → EndsList before after out_before out_after file ending → Same before after → Lists before after out_before out_after file (status_of ending)

@@ -30,6 +30,7 @@ image≢unrunnable bytes words (endings.Refused reason) are is (inr long, _) = (
 image≢unrunnable bytes words (endings.ReadFault name) are is why = why
 image≢unrunnable bytes words endings.WriteFault are is why = why
 image≢unrunnable bytes words (endings.NotImage at) are is why = (one_image bytes words are is).is_image at why.1
+image≢unrunnable bytes words (endings.BadText piece) are is why = why
 image≢unrunnable bytes words (endings.Ran end bound) are is why = why
 
 -- too many bytes or words, and no image
@@ -45,6 +46,7 @@ long_once bytes (endings.Refused reason) long why = ap refusal_status why.1
 long_once bytes (endings.ReadFault name) long why = absurd why
 long_once bytes endings.WriteFault long why = absurd why
 long_once bytes (endings.NotImage at) long why = absurd (long≢unlike bytes at long why)
+long_once bytes (endings.BadText piece) long why = absurd why
 long_once bytes (endings.Ran end bound) long why = absurd why
 
 -- and those that are no image with another
@@ -55,6 +57,7 @@ unlike_once bytes at (endings.Refused reason) unlike why = absurd (long≢unlike
 unlike_once bytes at (endings.ReadFault name) unlike why = absurd why
 unlike_once bytes at endings.WriteFault unlike why = absurd why
 unlike_once bytes at (endings.NotImage place) unlike why = refl
+unlike_once bytes at (endings.BadText piece) unlike why = absurd why
 unlike_once bytes at (endings.Ran end bound) unlike why = absurd why
 
 unrunnable_once : (bytes : List ℕ) (a b : Ending) → Unrunnable bytes a → Unrunnable bytes b → status_of a ≡ status_of b
@@ -64,6 +67,7 @@ unrunnable_once bytes (endings.Refused reason) b why other = ap refusal_status w
 unrunnable_once bytes (endings.ReadFault name) b why other = absurd why
 unrunnable_once bytes endings.WriteFault b why other = absurd why
 unrunnable_once bytes (endings.NotImage at) b why other = sym (unlike_once bytes at b why other)
+unrunnable_once bytes (endings.BadText piece) b why other = absurd why
 unrunnable_once bytes (endings.Ran end bound) b why other = absurd why
 
 -- what is unrunnable has no status of a run, and is no fault
@@ -74,6 +78,7 @@ unrunnable≢run bytes (endings.Refused reason) why ends = refused≢run reason 
 unrunnable≢run bytes (endings.ReadFault name) why ends = why
 unrunnable≢run bytes endings.WriteFault why ends = why
 unrunnable≢run bytes (endings.NotImage at) why ends = ends
+unrunnable≢run bytes (endings.BadText piece) why ends = why
 unrunnable≢run bytes (endings.Ran end bound) why ends = why
 
 untaken≢run : (before after : SeenShelf) (name : List ℕ) (max : ℕ) (long : _) (ending : Ending) → TakeFails before after name max long ending → IsRunStatus (status_of ending) → ⊥
@@ -83,6 +88,7 @@ untaken≢run before after name max long (endings.Refused reason) fails ends = r
 untaken≢run before after name max long (endings.ReadFault missing) fails ends = ends
 untaken≢run before after name max long endings.WriteFault fails ends = fails
 untaken≢run before after name max long (endings.NotImage at) fails ends = fails
+untaken≢run before after name max long (endings.BadText piece) fails ends = fails
 untaken≢run before after name max long (endings.Ran end bound) fails ends = fails
 
 module _ (words input : List ℕ) (bound : ℕ) (out_before out_after : SeenSink) where
@@ -94,6 +100,7 @@ module _ (words input : List ℕ) (bound : ℕ) (out_before out_after : SeenSink
   words_ran (endings.ReadFault name) ran ends = absurd ran
   words_ran endings.WriteFault ran ends = absurd ends
   words_ran (endings.NotImage at) ran ends = absurd ran
+  words_ran (endings.BadText piece) ran ends = absurd ran
   words_ran (endings.Ran end under) ran ends = (ap end_status ran.0, ran.2)
 
   -- words run, where the output did not fail
@@ -104,6 +111,7 @@ module _ (words input : List ℕ) (bound : ℕ) (out_before out_after : SeenSink
   words_run (endings.ReadFault name) ran calm = absurd ran
   words_run endings.WriteFault ran calm = absurd (calm ran.1)
   words_run (endings.NotImage at) ran calm = absurd ran
+  words_run (endings.BadText piece) ran calm = absurd ran
   words_run (endings.Ran end under) ran calm = inl (ap end_status ran.0, ran.2)
 
   words_silent : (ending : Ending) → WordsEndRun words input bound out_before out_after ending → (IsRunStatus (status_of ending) → ⊥) → (status_of ending ≡ statuses.WriteFault → ⊥) → Silent out_before out_after
@@ -113,6 +121,7 @@ module _ (words input : List ℕ) (bound : ℕ) (out_before out_after : SeenSink
   words_silent (endings.ReadFault name) ran no_run no_fault = absurd ran
   words_silent endings.WriteFault ran no_run no_fault = absurd (no_fault refl)
   words_silent (endings.NotImage at) ran no_run no_fault = absurd ran
+  words_silent (endings.BadText piece) ran no_run no_fault = absurd ran
   words_silent (endings.Ran end under) ran no_run no_fault = absurd (no_run (run_has end))
 
   words_unread : (ending : Ending) → WordsEndRun words input bound out_before out_after ending → status_of ending ≡ statuses.ReadFault → ⊥
@@ -122,6 +131,7 @@ module _ (words input : List ℕ) (bound : ℕ) (out_before out_after : SeenSink
   words_unread (endings.ReadFault name) ran is = ran
   words_unread endings.WriteFault ran is = cc
   words_unread (endings.NotImage at) ran is = ran
+  words_unread (endings.BadText piece) ran is = ran
   words_unread (endings.Ran end under) ran is = subst IsRunStatus is (run_has end)
 
 unrunnable_unread : (bytes : List ℕ) (ending : Ending) → Unrunnable bytes ending → status_of ending ≡ statuses.ReadFault → ⊥
@@ -131,6 +141,7 @@ unrunnable_unread bytes (endings.Refused reason) why is = refused≢ reason stat
 unrunnable_unread bytes (endings.ReadFault name) why is = why
 unrunnable_unread bytes endings.WriteFault why is = why
 unrunnable_unread bytes (endings.NotImage at) why is = cc
+unrunnable_unread bytes (endings.BadText piece) why is = why
 unrunnable_unread bytes (endings.Ran end bound) why is = why
 
 untaken_unread : (before after : SeenShelf) (name : List ℕ) (max : ℕ) (long : _) (ending : Ending) → TakeFails before after name max long ending → status_of ending ≡ statuses.ReadFault → CannotRead before after name
@@ -140,6 +151,7 @@ untaken_unread before after name max long (endings.Refused reason) fails is = ab
 untaken_unread before after name max long (endings.ReadFault missing) fails is = fails.1
 untaken_unread before after name max long endings.WriteFault fails is = absurd fails
 untaken_unread before after name max long (endings.NotImage at) fails is = absurd fails
+untaken_unread before after name max long (endings.BadText piece) fails is = absurd fails
 untaken_unread before after name max long (endings.Ran end bound) fails is = absurd fails
 
 module _ (before after : SeenShelf) (out_before out_after : SeenSink) (image input : List ℕ) (bound : ℕ) where

@@ -91,6 +91,7 @@ module _ (before after : SeenShelf) (name : List ℕ) (max : ℕ) (long : Refusa
   untaken_content bytes (endings.ReadFault missing) fails is = absurd (cannot_read bytes fails.1 is)
   untaken_content bytes endings.WriteFault fails is = absurd fails
   untaken_content bytes (endings.NotImage at) fails is = absurd fails
+  untaken_content bytes (endings.BadText piece) fails is = absurd fails
   untaken_content bytes (endings.Ran end bound) fails is = absurd fails
 
   -- a name under which nothing is held can't be read
@@ -102,6 +103,7 @@ module _ (before after : SeenShelf) (name : List ℕ) (max : ℕ) (long : Refusa
   untaken_missing (endings.ReadFault missing) fails is = inl refl
   untaken_missing endings.WriteFault fails is = absurd fails
   untaken_missing (endings.NotImage at) fails is = absurd fails
+  untaken_missing (endings.BadText piece) fails is = absurd fails
   untaken_missing (endings.Ran end bound) fails is = absurd fails
 
   -- why a name could not be taken, by the shelf's error

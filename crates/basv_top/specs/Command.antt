@@ -1,11 +1,12 @@
 -- The words of the command line. This project's own.
 use Rattle.std.specs.Prelude.{ℕ, Bool, true, not, ◌&&◌, ◌==◌, List, [], ◌∷◌, Option, Some, None, bytes_eq, codes, if◌then◌else◌}
 
--- list a file, compile it to an image, or run an image
+-- list a file, compile it to an image, run an image, or tokenise a text to a file
 pub data Command : Type 0 where
   Listing : (file : List ℕ) → Command
   Compile : (file image : List ℕ) → Command
   Run : (image : List ℕ) → Command
+  Crunch : (text file : List ℕ) → Command
 
 -- A word that begins with a dash is no name, unless it is the dash alone.
 abbrev pub is_name : List ℕ → Bool
@@ -22,5 +23,7 @@ command_of (c ∷ name ∷ []) =
     else if bytes_eq c (codes "run") && is_name name then Some (Run name)
     else None
 command_of (c ∷ file ∷ image ∷ []) =
-    if bytes_eq c (codes "compile") && (is_name file && is_name image) then Some (Compile file image) else None
+    if bytes_eq c (codes "compile") && (is_name file && is_name image) then Some (Compile file image)
+    else if bytes_eq c (codes "crunch") && (is_name file && is_name image) then Some (Crunch file image)
+    else None
 command_of (c ∷ file ∷ image ∷ d ∷ rest) = None

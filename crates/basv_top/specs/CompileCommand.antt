@@ -12,7 +12,7 @@ use Rattle.bas_compile.specs.Grammar.{Accepted}
 use Rattle.bas_compile.specs.Refused as refused
 use Rattle.basv_top.specs.declared.status.Status.{Status}
 use Rattle.basv_top.specs.declared.status.Status.TheVariants as statuses
-use Rattle.basv_top.specs.Ending.{Ending, Done, Usage, Refused, ReadFault, WriteFault, NotImage, Ran, refusal_status, long_file}
+use Rattle.basv_top.specs.Ending.{Ending, Done, Usage, Refused, ReadFault, WriteFault, NotImage, BadText, Ran, refusal_status, long_file}
 use Rattle.basv_top.specs.Seen.{SeenShelf, SeenSink, Silent, Same}
 use Rattle.basv_top.specs.Taking.{IsContent, CannotRead, TakeFails}
 
@@ -39,6 +39,7 @@ BytesEndCompile before after file image bytes WriteFault =
     (contents : List ℕ) × CompilesTo bytes contents × (after.log ≡ NotPut image contents put_errors.Failed ∷ Took file bytes ∷ before.log)
     × Rose before.put_faults after.put_faults
 BytesEndCompile before after file image bytes (NotImage at) = ⊥
+BytesEndCompile before after file image bytes (BadText piece) = ⊥
 BytesEndCompile before after file image bytes (Ran end bound) = ⊥
 
 -- why `compile` ends so

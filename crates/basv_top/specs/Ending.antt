@@ -3,7 +3,9 @@ use Rattle.std.specs.Prelude.{ℕ, ◌+◌, ◌/◌, ◌%◌, ◌^◌, List, [],
 use Rattle.std.specs.Fmt.{signed_decimal}
 use Rattle.arm2_machine.specs.declared.image.ImageError.{ImageError}
 use Rattle.arm2_machine.specs.declared.image.ImageError.TheVariants as image_errors
-use Rattle.bv_base.specs.Limits.{file_bytes, image_words}
+use Rattle.basv_crunch.specs.declared.error.CrunchError.{CrunchError}
+use Rattle.basv_crunch.specs.declared.error.CrunchError.TheVariants as crunch_errors
+use Rattle.bv_base.specs.Limits.{file_bytes, image_words, text_file_bytes, crunched_file_bytes}
 use Rattle.bv_num.specs.Digits.{digit_byte}
 use Rattle.bv_run.specs.declared.report.Report.{Report}
 use Rattle.bv_run.specs.declared.report.Report.TheVariants as reports
@@ -26,7 +28,8 @@ use Rattle.basv_top.specs.declared.status.Status.{Status}
 use Rattle.basv_top.specs.declared.status.Status.TheVariants as statuses
 
 -- The command was done, the words are no command, the file is refused for a reason, the name could not be taken,
--- something could not be written, the file is no image, or the image ran until it ended so, or reached its bound.
+-- something could not be written, the file is no image, a piece of the text is no line, or the image ran until it ended so,
+-- or reached its bound.
 pub data Ending : Type 0 where
   Done : Ending
   Usage : Ending
@@ -34,6 +37,7 @@ pub data Ending : Type 0 where
   ReadFault : (name : List ℕ) → Ending
   WriteFault : Ending
   NotImage : (at : ℕ) → Ending
+  BadText : (piece : ℕ) → Ending
   Ran : (end : RunEnd) (bound : ℕ) → Ending
 
 -- an ending as the code has it
@@ -44,6 +48,7 @@ told (tells.Refused reason) = Refused reason
 told (tells.ReadFault name) = ReadFault name.now
 told tells.WriteFault = WriteFault
 told (tells.NotImage at) = NotImage at
+told (tells.BadText line) = BadText line
 told (tells.Ran end bound) = Ran end bound
 
 -- the number of a status, as a process ends with it
@@ -62,6 +67,7 @@ status_number statuses.NoMemory = 10
 status_number statuses.Stray = 11
 status_number statuses.InputEnded = 12
 status_number statuses.Broken = 13
+status_number statuses.BadText = 14
 
 -- the status of a refusal
 abbrev pub refusal_status : Refusal → Status
@@ -91,6 +97,7 @@ status_of (Refused reason) = refusal_status reason
 status_of (ReadFault name) = statuses.ReadFault
 status_of WriteFault = statuses.WriteFault
 status_of (NotImage at) = statuses.NotImage
+status_of (BadText piece) = statuses.BadText
 status_of (Ran end bound) = end_status end
 
 -- a limit, by its word
@@ -102,6 +109,7 @@ limit_word limits.Parameters = codes "parameters"
 limit_word limits.Dimensions = codes "dimensions"
 limit_word limits.Input = codes "input"
 limit_word limits.Image = codes "image"
+limit_word limits.Text = codes "text"
 
 -- the text of a message
 abbrev pub message_text : Message → List ℕ
@@ -146,11 +154,12 @@ end_text (ends.Broken kind address) bound = codes "broken " ++ trap_text kind ad
 -- what is said of an ending
 abbrev pub text_of : Ending → List ℕ
 text_of Done = []
-text_of Usage = codes "usage: basv list FILE / compile FILE IMAGE / interp FILE / run IMAGE / selftest SEED LINES"
+text_of Usage = codes "usage: basv list FILE / compile FILE IMAGE / interp FILE / run IMAGE / selftest SEED LINES / crunch TEXT FILE"
 text_of (Refused reason) = refusal_text reason
 text_of (ReadFault name) = codes "cannot read " ++ name
 text_of WriteFault = codes "cannot write"
 text_of (NotImage at) = codes "not an image at byte " ++ decimal at
+text_of (BadText piece) = codes "bad text at line " ++ decimal piece
 text_of (Ran end bound) = end_text end bound
 
 -- what the error output gets: nothing where the command, or the program that ran, was done; else one line
@@ -185,6 +194,14 @@ ended_run (Err ending) bound = told ending
 abbrev pub long_file : Refusal
 long_file = refusals.Limit limits.File (file_bytes + 1)
 
+-- how a text of too many bytes is refused
+abbrev pub long_text : Refusal
+long_text = refusals.Limit limits.Text (text_file_bytes + 1)
+
+-- how a text is refused whose file would have too many bytes
+abbrev pub long_crunched : Refusal
+long_crunched = refusals.Limit limits.File (crunched_file_bytes + 1)
+
 -- how an image of too many words is refused
 abbrev pub long_image : Refusal
 long_image = refusals.Limit limits.Image (image_words + 1)
@@ -194,3 +211,9 @@ abbrev pub image_ending : ImageError → Ending
 image_ending (image_errors.NotImage at) = NotImage at
 image_ending image_errors.TooLong = Refused long_image
 image_ending image_errors.NoMemory = Refused refusals.NoMemory
+
+-- how `crunch` ends whose text has no file
+abbrev pub crunch_ending : CrunchError → Ending
+crunch_ending (crunch_errors.BadText piece) = BadText piece
+crunch_ending crunch_errors.TooLong = Refused long_crunched
+crunch_ending crunch_errors.NoMemory = Refused refusals.NoMemory

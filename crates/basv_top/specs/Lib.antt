@@ -8,3 +8,4 @@ pub mod CompileCommand
 pub mod RunCommand
 pub mod Top
 pub mod InMemory
+pub mod CrunchCommand

@@ -11,7 +11,7 @@ use Rattle.bas_compile.specs.declared.refusal.Refusal.TheVariants as refusals
 use Rattle.bas_compile.specs.declared.refusal.Which.TheVariants as limits
 use Rattle.basv_top.specs.declared.status.Status.{Status}
 use Rattle.basv_top.specs.declared.status.Status.TheVariants as statuses
-use Rattle.basv_top.specs.Ending.{Ending, Done, Usage, Refused, ReadFault, WriteFault, NotImage, Ran, refusal_status, long_file}
+use Rattle.basv_top.specs.Ending.{Ending, Done, Usage, Refused, ReadFault, WriteFault, NotImage, BadText, Ran, refusal_status, long_file}
 use Rattle.basv_top.specs.Seen.{SeenShelf, SeenSink, Silent, Same}
 use Rattle.basv_top.specs.Taking.{IsContent, CannotRead, TakeFails, Takes}
 use Rattle.lister.specs.Listings.{listings}
@@ -36,6 +36,7 @@ BytesEndList bytes before after WriteFault =
     (lines : List Line) × Lines bytes lines × (after.log ≡ NotWritten (listings lines) ∷ before.log)
     × WritesPart before.written (listings lines) after.written × Rose before.faults after.faults
 BytesEndList bytes before after (NotImage at) = ⊥
+BytesEndList bytes before after (BadText piece) = ⊥
 BytesEndList bytes before after (Ran end bound) = ⊥
 
 -- why `list` ends so

@@ -5,7 +5,7 @@ use Rattle.bv_io.specs.Log.{Event, Took, NotTaken}
 use Rattle.bv_io.specs.Shelf.{Rose, Tells, TellsMore}
 use Rattle.bas_compile.specs.declared.refusal.Refusal.{Refusal}
 use Rattle.bas_compile.specs.declared.refusal.Refusal.TheVariants as refusals
-use Rattle.basv_top.specs.Ending.{Ending, Done, Usage, Refused, ReadFault, WriteFault, NotImage, Ran}
+use Rattle.basv_top.specs.Ending.{Ending, Done, Usage, Refused, ReadFault, WriteFault, NotImage, BadText, Ran}
 use Rattle.basv_top.specs.Seen.{SeenShelf}
 
 -- the shelf gave these bytes under the name, when it was asked for the first time
@@ -33,6 +33,7 @@ TakeFails before after name max too_long (Refused reason) =
 TakeFails before after name max too_long (ReadFault missing) = (missing ≡ name) × CannotRead before after name
 TakeFails before after name max too_long WriteFault = ⊥
 TakeFails before after name max too_long (NotImage at) = ⊥
+TakeFails before after name max too_long (BadText piece) = ⊥
 TakeFails before after name max too_long (Ran end bound) = ⊥
 
 -- the shelf was asked once, and gave these bytes, which are those that it tells

@@ -1,11 +1,12 @@
 -- What the program does, by the command that its words are. This project's own.
 use Rattle.std.specs.Prelude.{◌≡◌, ◌≢◌, ℕ, List, [], Option, Some, None}
 use Rattle.basv_top.specs.declared.status.Status.{Status}
-use Rattle.basv_top.specs.Command.{Command, Listing, Compile, Run}
+use Rattle.basv_top.specs.Command.{Command, Listing, Compile, Run, Crunch}
 use Rattle.basv_top.specs.Ending.{Ending, Usage, status_of, line_of}
 use Rattle.basv_top.specs.Seen.{SeenShelf, SeenSink, Silent, Same, Writes}
 use Rattle.basv_top.specs.ListCommand.{EndsList}
 use Rattle.basv_top.specs.CompileCommand.{EndsCompile}
+use Rattle.basv_top.specs.CrunchCommand.{EndsCrunch}
 use Rattle.basv_top.specs.RunCommand.{EndsRun, greatest_bound}
 
 -- why the words end so
@@ -14,6 +15,7 @@ EndsCommand before after out_before out_after None ending = (ending ≡ Usage) �
 EndsCommand before after out_before out_after (Some (Listing file)) ending = EndsList before after out_before out_after file ending
 EndsCommand before after out_before out_after (Some (Compile file image)) ending = EndsCompile before after file image ending × Silent out_before out_after
 EndsCommand before after out_before out_after (Some (Run image)) ending = EndsRun before after out_before out_after image [] greatest_bound ending
+EndsCommand before after out_before out_after (Some (Crunch text file)) ending = EndsCrunch before after text file ending × Silent out_before out_after
 
 -- The program ended in some way, for its reason, with the status of that way, and with its line on the error output.
 pub record Ends (before after : SeenShelf) (out_before out_after err_before err_after : SeenSink) (command : Option Command) (status : Status) : Type 0 where
@@ -22,7 +24,8 @@ pub record Ends (before after : SeenShelf) (out_before out_after err_before err_
   pub explained : EndsCommand before after out_before out_after command ending
   pub line : Writes err_before err_after (line_of ending)
 
--- no name changes but a compile's IMAGE
-abbrev pub OnlyImage : SeenShelf → SeenShelf → Option Command → Type 0
-OnlyImage before after (Some (Compile file image)) = (n : List ℕ) → n ≢ image → after.content n ≡ before.content n
-OnlyImage before after command = Same before after
+-- no name changes but a compile's IMAGE and a tokenising's FILE
+abbrev pub OnlyNamed : SeenShelf → SeenShelf → Option Command → Type 0
+OnlyNamed before after (Some (Compile file image)) = (n : List ℕ) → n ≢ image → after.content n ≡ before.content n
+OnlyNamed before after (Some (Crunch text file)) = (n : List ℕ) → n ≢ file → after.content n ≡ before.content n
+OnlyNamed before after command = Same before after

@@ -1,3 +1,4 @@
+//! What the words of the command line ask for.
 ghost use Rattle.std.specs.Prelude.{◌≡◌, [], ◌∷◌, map, string_bytes};
 ghost use Rattle.std.specs.Option.{option_map};
 ghost use Rattle.basv_top.specs.Command.{is_name, command_of};
@@ -12,6 +13,8 @@ pub enum Command<'a> {
     Compile { file: &'a str, image: &'a str },
     /// Run an image on the board.
     Run { image: &'a str },
+    /// Tokenise a text to a program's file.
+    Crunch { text: &'a str, file: &'a str },
 }
 
 fn is_name(word: &str) -> bool
@@ -32,11 +35,24 @@ fn read_list_or_run<'a>(name: &str, file: &'a str) -> Option<Command<'a>>
     None
 }
 
-fn read_compile<'a>(name: &str, file: &'a str, image: &'a str) -> Option<Command<'a>>
-    ensures { option_map meant result ≡ command_of (name.now ∷ file.now ∷ image.now ∷ []) }
+fn read_compile_or_crunch<'a>(
+    name: &str,
+    from: &'a str,
+    to: &'a str,
+) -> Option<Command<'a>>
+    ensures { option_map meant result ≡ command_of (name.now ∷ from.now ∷ to.now ∷ []) }
 {
-    if name == "compile" && is_name(file) && is_name(image) {
-        return Some(Command::Compile { file, image });
+    if name == "compile" && is_name(from) && is_name(to) {
+        return Some(Command::Compile {
+            file: from,
+            image: to,
+        });
+    }
+    if name == "crunch" && is_name(from) && is_name(to) {
+        return Some(Command::Crunch {
+            text: from,
+            file: to,
+        });
     }
     None
 }
@@ -47,7 +63,7 @@ pub fn read_command(words: &[String]) -> Option<Command<'_>>
 {
     match words {
         [name, file] => read_list_or_run(name.as_str(), file.as_str()),
-        [name, file, image] => read_compile(name.as_str(), file.as_str(), image.as_str()),
+        [name, from, to] => read_compile_or_crunch(name.as_str(), from.as_str(), to.as_str()),
         _ => None,
     }
 }

@@ -1,10 +1,12 @@
+//! The ways in which a command ends, each with what its line tells.
 ghost use Rattle.std.specs.Prelude.{◌≡◌};
 ghost use Rattle.basv_top.specs.Ending.{told, ended, ended_run, status_of, refusal_status, report_status, end_status, take_ending};
 
-use crate::limits::LONG_IMAGE;
+use crate::limits::{LONG_CRUNCHED, LONG_IMAGE};
 use crate::status::Status;
 use arm2_machine::ImageError;
 use bas_compile::Refusal;
+use basv_crunch::CrunchError;
 use bv_base::NoMemory;
 use bv_io::{PutError, SinkFault, TakeError};
 use bv_run::{Report, RunEnd};
@@ -25,6 +27,8 @@ pub enum Ending<'a> {
     WriteFault,
     /// The file is no image. Its bytes before `at` could begin one.
     NotImage { at: u32 },
+    /// The piece of the text that has this number, counted from 1, is no line.
+    BadText { line: u32 },
     /// The image was run under a bound of instructions, and its run ended so.
     Ran { end: RunEnd, bound: u64 },
 }
@@ -72,6 +76,7 @@ impl<'a> Ending<'a> {
             Ending::ReadFault { .. } => Status::ReadFault,
             Ending::WriteFault => Status::WriteFault,
             Ending::NotImage { .. } => Status::NotImage,
+            Ending::BadText { .. } => Status::BadText,
             Ending::Ran { end, .. } => end_status(end),
         }
     }
@@ -181,5 +186,20 @@ impl From<SinkFault> for Ending<'_> {
 
     fn from(_fault: SinkFault) -> Self {
         Ending::WriteFault
+    }
+}
+
+impl From<CrunchError> for Ending<'_> {
+    ghost use Rattle.std.specs.Prelude.{◌≡◌};
+    ghost use Rattle.basv_top.specs.Ending.{crunch_ending, told};
+
+    ghost from_gives = { λ error ending. told ending ≡ crunch_ending error };
+
+    fn from(error: CrunchError) -> Self {
+        match error {
+            CrunchError::BadText { line } => Ending::BadText { line },
+            CrunchError::TooLong => Ending::Refused(LONG_CRUNCHED),
+            CrunchError::NoMemory => Ending::Refused(Refusal::NoMemory),
+        }
     }
 }

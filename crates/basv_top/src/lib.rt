@@ -4,6 +4,7 @@
 
 mod command;
 mod compile_command;
+mod crunch_command;
 mod ending;
 mod laws;
 mod limits;

@@ -15,7 +15,7 @@ use bv_num::digit_byte;
 use itoa::Buffer;
 
 const USAGE: &[u8] =
-    b"usage: basv list FILE / compile FILE IMAGE / interp FILE / run IMAGE / selftest SEED LINES";
+    b"usage: basv list FILE / compile FILE IMAGE / interp FILE / run IMAGE / selftest SEED LINES / crunch TEXT FILE";
 
 /// A line on the error output, in pieces. Those that it has not are empty.
 #[derive(Clone, Copy)]
@@ -86,6 +86,7 @@ fn limit_word(which: Which) -> &'static [u8]
         Which::Dimensions => b"dimensions",
         Which::Input => b"input",
         Which::Image => b"image",
+        Which::Text => b"text",
     }
 }
 
@@ -214,6 +215,9 @@ fn ending_message<'a>(ending: Ending<'a>, numbers: &'a mut Numbers) -> Message<'
         Ending::WriteFault => Message::plain(b"cannot write"),
         Ending::NotImage { at } => {
             Message::numbered(b"not an image at byte ", numbers.first.format(at))
+        }
+        Ending::BadText { line } => {
+            Message::numbered(b"bad text at line ", numbers.first.format(line))
         }
         Ending::Ran { end, bound } => end_message(end, bound, numbers),
     }

@@ -1,3 +1,4 @@
+//! The statuses with which the program ends.
 /// The status that the program ends with, by its number.
 #[derive(Clone, Copy, Debug, PartialEq, Eq)]
 pub enum Status {
@@ -29,6 +30,8 @@ pub enum Status {
     InputEnded = 12,
     /// The board could not go on.
     Broken = 13,
+    /// A piece of the text is no line.
+    BadText = 14,
 }
 
 impl Status {

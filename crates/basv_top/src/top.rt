@@ -1,15 +1,17 @@
 //! The program: what its words ask for, and how it ends.
 ghost use Rattle.std.specs.Prelude.{◌≡◌, ◌≢◌, ◌⊎◌, ℕ, List, [], None, Some, map, string_bytes};
-ghost use Rattle.basv_top.specs.Command.{Listing as IsList, Compile as IsCompile, Run as IsRun, command_of};
+ghost use Rattle.basv_top.specs.Command.{Listing as IsList, Compile as IsCompile, Run as IsRun, Crunch as IsCrunch, command_of};
 ghost use Rattle.basv_top.specs.CompileCommand.{Compiles, MayWrite};
+ghost use Rattle.basv_top.specs.CrunchCommand.{Crunches};
 ghost use Rattle.basv_top.specs.Ending.{told, status_of};
 ghost use Rattle.basv_top.specs.ListCommand.{Lists};
 ghost use Rattle.basv_top.specs.RunCommand.{Runs, greatest_bound};
 ghost use Rattle.basv_top.specs.Seen.{Same, Silent, seen_shelf, seen_sink};
-ghost use Rattle.basv_top.specs.Top.{Ends, EndsCommand, OnlyImage};
+ghost use Rattle.basv_top.specs.Top.{Ends, EndsCommand, OnlyNamed};
 
 use crate::command::{Command, read_command};
 use crate::compile_command::compile;
+use crate::crunch_command::crunch;
 use crate::ending::Ending;
 use crate::list_command::list;
 use crate::message::report;
@@ -30,7 +32,7 @@ fn carry_out<'a, S: Shelf, O: Sink>(
 ) -> Ending<'a>
     ensures ends { EndsCommand (seen_shelf S.Shelf shelf.old) (seen_shelf S.Shelf shelf.new)
         (seen_sink O.Sink out.old) (seen_sink O.Sink out.new) (command_of (map string_bytes words.now)) (told result) }
-    ensures changes { OnlyImage (seen_shelf S.Shelf shelf.old) (seen_shelf S.Shelf shelf.new) (command_of (map string_bytes words.now)) }
+    ensures changes { OnlyNamed (seen_shelf S.Shelf shelf.old) (seen_shelf S.Shelf shelf.new) (command_of (map string_bytes words.now)) }
     ensures same { MayWrite (status_of (told result)) ⊎ Same (seen_shelf S.Shelf shelf.old) (seen_shelf S.Shelf shelf.new) }
 {
     match read_command(words) {
@@ -39,14 +41,16 @@ fn carry_out<'a, S: Shelf, O: Sink>(
         Some(Command::Run { image }) => {
             run(alloc, image, Vec::new(alloc), GREATEST_BOUND, shelf, out)
         }
+        Some(Command::Crunch { text, file }) => crunch(alloc, text, file, shelf),
         None => Ending::Usage,
     }
 }
 
 /// The program `basv`, on the words after its name. `list FILE` writes the listing of the tokenised program that the
 /// shelf holds under FILE to `out`. `compile FILE IMAGE` puts that program's image file under IMAGE. `run IMAGE` runs
-/// the image that the shelf holds under IMAGE on the board, without input, and writes its output to `out`. Where the
-/// command, or the program that ran, isn't done, one line on `err` says why.
+/// the image that the shelf holds under IMAGE on the board, without input, and writes its output to `out`. `crunch TEXT
+/// FILE` puts the tokenised file of a program's text under FILE. Where the command, or the program that ran, isn't done,
+/// one line on `err` says why.
 pub fn basv<S: Shelf, O: Sink, E: Sink>(
     alloc: Global,
     words: &[String],
@@ -65,6 +69,9 @@ pub fn basv<S: Shelf, O: Sink, E: Sink>(
     ensures run { (image : List ℕ) → command_of (map string_bytes words.now) ≡ Some (IsRun image)
         → Runs (seen_shelf S.Shelf shelf.old) (seen_shelf S.Shelf shelf.new)
         (seen_sink O.Sink out.old) (seen_sink O.Sink out.new) image [] greatest_bound result }
+    ensures crunch { (text file : List ℕ) → command_of (map string_bytes words.now) ≡ Some (IsCrunch text file)
+        → Crunches (seen_shelf S.Shelf shelf.old) (seen_shelf S.Shelf shelf.new)
+        (seen_sink O.Sink out.old) (seen_sink O.Sink out.new) text file result }
 
     // Words that are no command do nothing.
     ensures usage { command_of (map string_bytes words.now) ≡ None

@@ -1,12 +1,14 @@
 use Rattle.std.proofs.Common.{Some, [], sym, subst}
-use Rattle.basv_top.specs.Command.{Listing, Compile, Run}
+use Rattle.basv_top.specs.Command.{Listing, Compile, Run, Crunch}
 use Rattle.basv_top.specs.CompileCommand.{Compiles}
+use Rattle.basv_top.specs.CrunchCommand.{Crunches}
 use Rattle.basv_top.specs.Ending.{told}
 use Rattle.basv_top.specs.ListCommand.{Lists}
 use Rattle.basv_top.specs.RunCommand.{Runs, greatest_bound}
 use Rattle.basv_top.specs.Seen.{seen_shelf, seen_sink}
-use Rattle.basv_top.specs.Top.{EndsCommand, OnlyImage}
+use Rattle.basv_top.specs.Top.{EndsCommand, OnlyNamed}
 use Rattle.basv_top.proofs.CompileFacts.{compiles}
+use Rattle.basv_top.proofs.CrunchFacts.{crunches}
 use Rattle.basv_top.proofs.ListFacts.{lists}
 use Rattle.basv_top.proofs.RunFacts.{runs}
 use Rattle.basv_top.proofs.top.basv.Goals as goal
@@ -19,7 +21,7 @@ returns-clause-compile g c = λ file image is.
     let out_after = seen_sink g.O.Sink c.carry_out-ending.new.out in
     let ending = told c.carry_out-ending.result in
     let why = subst (λ command. EndsCommand before after out_before out_after command ending) is c.carry_out-ending.ensures.ends in
-    let changes = subst (OnlyImage before after) is c.carry_out-ending.ensures.changes in
+    let changes = subst (OnlyNamed before after) is c.carry_out-ending.ensures.changes in
     subst (Compiles before after out_before out_after file image) (sym c.status.ensures)
     (compiles before after file image out_before out_after ending why.0 why.1 changes c.carry_out-ending.ensures.same)
 
@@ -31,7 +33,7 @@ returns-clause-list g c = λ file is.
     let out_after = seen_sink g.O.Sink c.carry_out-ending.new.out in
     let ending = told c.carry_out-ending.result in
     let why = subst (λ command. EndsCommand before after out_before out_after command ending) is c.carry_out-ending.ensures.ends in
-    let same = subst (OnlyImage before after) is c.carry_out-ending.ensures.changes in
+    let same = subst (OnlyNamed before after) is c.carry_out-ending.ensures.changes in
     subst (Lists before after out_before out_after file) (sym c.status.ensures) (lists before after out_before out_after file ending why same)
 
 pub returns-clause-run : goal.returns-clause-run
@@ -42,5 +44,17 @@ returns-clause-run g c = λ image is.
     let out_after = seen_sink g.O.Sink c.carry_out-ending.new.out in
     let ending = told c.carry_out-ending.result in
     let why = subst (λ command. EndsCommand before after out_before out_after command ending) is c.carry_out-ending.ensures.ends in
-    let same = subst (OnlyImage before after) is c.carry_out-ending.ensures.changes in
+    let same = subst (OnlyNamed before after) is c.carry_out-ending.ensures.changes in
     subst (Runs before after out_before out_after image [] greatest_bound) (sym c.status.ensures) (runs before after out_before out_after image [] greatest_bound ending why same)
+
+pub returns-clause-crunch : goal.returns-clause-crunch
+returns-clause-crunch g c = λ text file is.
+    let before = seen_shelf g.S.Shelf c.args.shelf.now in
+    let after = seen_shelf g.S.Shelf c.carry_out-ending.new.shelf in
+    let out_before = seen_sink g.O.Sink c.args.out.now in
+    let out_after = seen_sink g.O.Sink c.carry_out-ending.new.out in
+    let ending = told c.carry_out-ending.result in
+    let why = subst (λ command. EndsCommand before after out_before out_after command ending) is c.carry_out-ending.ensures.ends in
+    let changes = subst (OnlyNamed before after) is c.carry_out-ending.ensures.changes in
+    subst (Crunches before after out_before out_after text file) (sym c.status.ensures)
+    (crunches before after text file out_before out_after ending why.0 why.1 changes c.carry_out-ending.ensures.same)
