@@ -69,7 +69,7 @@ impl Machine {
         }
     }
 
-    /// Carries out what an instruction's event comes to. The instruction stands at the address.
+    /// Carries out what an instruction's event comes to. The instruction is at the address.
     pub(crate) fn follow(&mut self, at: Pc, event: CpuEvent) -> StepOutcome
         ensures { after_event self.old at event ≡ turn_of result self.new }
     {
