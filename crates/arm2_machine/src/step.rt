@@ -63,7 +63,13 @@ impl Machine {
         'plain: loop {
             let at = self.regs.pc;
             match self.instruct() {
-                CpuEvent::Ran if before + 1 < most => before += 1,
+                CpuEvent::Ran => {
+                    if before + 1 == most {
+                        let event = CpuEvent::Ran;
+                        return Stretch { before, at, event };
+                    }
+                    before += 1;
+                }
                 event => return Stretch { before, at, event },
             }
         }
