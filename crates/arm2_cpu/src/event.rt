@@ -23,7 +23,6 @@ pub enum CpuEvent {
 }
 
 /// The trap of an instruction that isn't executed.
-#[cold]
 pub(crate) fn trap(regs: &Regs, kind: Trap) -> CpuEvent
     ensures { record { event = result; regs = regs.now } ≡ trapped kind regs.now }
 {
@@ -34,7 +33,6 @@ pub(crate) fn trap(regs: &Regs, kind: Trap) -> CpuEvent
 }
 
 /// The trap of a refused access.
-#[cold]
 pub(crate) fn data_trap(regs: &Regs, address: u32) -> CpuEvent
     ensures { record { event = result; regs = regs.now } ≡ data_trapped address regs.now }
 {
