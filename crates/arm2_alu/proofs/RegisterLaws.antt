@@ -3,6 +3,7 @@ use Rattle.std.proofs.Common.{◌≡◌, ◌≢◌, ℕ, ◌+◌, ◌*◌, ◌/�
 use Rattle.std.proofs.lemmas.Bool.{eqb-false}
 use Rattle.std.proofs.lemmas.List.{get_or-set_other}
 use Rattle.arm_isa.proofs.FieldLemmas.{from_bool-lt, flag_of}
+use Rattle.arm_isa.specs.Numbers.{EQ, NE, CS, CC, MI, PL, VS, VC, HI, LS, GE, LT, GT, LE, AL, NV}
 use Rattle.arm2_alu.specs.declared.regs.Regs.{Regs}
 use Rattle.arm_isa.specs.Fields.{bit}
 use Rattle.arm2_alu.specs.Conditions.{negative, zero_flag, carry, overflow, same, even_condition, holds, with_flags}
@@ -251,66 +252,66 @@ unfolding r15
 r15-at_pc r pc ahead = refl
 
 -- the conditions by the flags
-pub holds-always : (r : Regs) → holds 14 r ≡ true
+pub holds-always : (r : Regs) → holds AL r ≡ true
 unfolding holds even_condition
 holds-always r = refl
 
-pub holds-never : (r : Regs) → holds 15 r ≡ false
+pub holds-never : (r : Regs) → holds NV r ≡ false
 unfolding holds even_condition
 holds-never r = refl
 
-pub holds-eq : (n z c v : Bool) (r : Regs) → holds 0 (with_flags n z c v r) ≡ z
+pub holds-eq : (n z c v : Bool) (r : Regs) → holds EQ (with_flags n z c v r) ≡ z
 unfolding holds even_condition
 holds-eq n z c v r = zero-with_flags n z c v r
 
-pub holds-ne : (n z c v : Bool) (r : Regs) → holds 1 (with_flags n z c v r) ≡ not z
+pub holds-ne : (n z c v : Bool) (r : Regs) → holds NE (with_flags n z c v r) ≡ not z
 unfolding holds even_condition
 holds-ne n z c v r = ap not (zero-with_flags n z c v r)
 
-pub holds-cs : (n z c v : Bool) (r : Regs) → holds 2 (with_flags n z c v r) ≡ c
+pub holds-cs : (n z c v : Bool) (r : Regs) → holds CS (with_flags n z c v r) ≡ c
 unfolding holds even_condition
 holds-cs n z c v r = carry-with_flags n z c v r
 
-pub holds-cc : (n z c v : Bool) (r : Regs) → holds 3 (with_flags n z c v r) ≡ not c
+pub holds-cc : (n z c v : Bool) (r : Regs) → holds CC (with_flags n z c v r) ≡ not c
 unfolding holds even_condition
 holds-cc n z c v r = ap not (carry-with_flags n z c v r)
 
-pub holds-mi : (n z c v : Bool) (r : Regs) → holds 4 (with_flags n z c v r) ≡ n
+pub holds-mi : (n z c v : Bool) (r : Regs) → holds MI (with_flags n z c v r) ≡ n
 unfolding holds even_condition
 holds-mi n z c v r = negative-with_flags n z c v r
 
-pub holds-pl : (n z c v : Bool) (r : Regs) → holds 5 (with_flags n z c v r) ≡ not n
+pub holds-pl : (n z c v : Bool) (r : Regs) → holds PL (with_flags n z c v r) ≡ not n
 unfolding holds even_condition
 holds-pl n z c v r = ap not (negative-with_flags n z c v r)
 
-pub holds-vs : (n z c v : Bool) (r : Regs) → holds 6 (with_flags n z c v r) ≡ v
+pub holds-vs : (n z c v : Bool) (r : Regs) → holds VS (with_flags n z c v r) ≡ v
 unfolding holds even_condition
 holds-vs n z c v r = overflow-with_flags n z c v r
 
-pub holds-vc : (n z c v : Bool) (r : Regs) → holds 7 (with_flags n z c v r) ≡ not v
+pub holds-vc : (n z c v : Bool) (r : Regs) → holds VC (with_flags n z c v r) ≡ not v
 unfolding holds even_condition
 holds-vc n z c v r = ap not (overflow-with_flags n z c v r)
 
-pub holds-hi : (n z c v : Bool) (r : Regs) → holds 8 (with_flags n z c v r) ≡ (c && not z)
+pub holds-hi : (n z c v : Bool) (r : Regs) → holds HI (with_flags n z c v r) ≡ (c && not z)
 unfolding holds even_condition
 holds-hi n z c v r = (λ i. carry-with_flags n z c v r i && not (zero-with_flags n z c v r i))
 
-pub holds-ls : (n z c v : Bool) (r : Regs) → holds 9 (with_flags n z c v r) ≡ not (c && not z)
+pub holds-ls : (n z c v : Bool) (r : Regs) → holds LS (with_flags n z c v r) ≡ not (c && not z)
 unfolding holds even_condition
 holds-ls n z c v r = (λ i. not (carry-with_flags n z c v r i && not (zero-with_flags n z c v r i)))
 
-pub holds-ge : (n z c v : Bool) (r : Regs) → holds 10 (with_flags n z c v r) ≡ same n v
+pub holds-ge : (n z c v : Bool) (r : Regs) → holds GE (with_flags n z c v r) ≡ same n v
 unfolding holds even_condition
 holds-ge n z c v r = (λ i. same (negative-with_flags n z c v r i) (overflow-with_flags n z c v r i))
 
-pub holds-lt : (n z c v : Bool) (r : Regs) → holds 11 (with_flags n z c v r) ≡ not (same n v)
+pub holds-lt : (n z c v : Bool) (r : Regs) → holds LT (with_flags n z c v r) ≡ not (same n v)
 unfolding holds even_condition
 holds-lt n z c v r = (λ i. not (same (negative-with_flags n z c v r i) (overflow-with_flags n z c v r i)))
 
-pub holds-gt : (n z c v : Bool) (r : Regs) → holds 12 (with_flags n z c v r) ≡ (not z && same n v)
+pub holds-gt : (n z c v : Bool) (r : Regs) → holds GT (with_flags n z c v r) ≡ (not z && same n v)
 unfolding holds even_condition
 holds-gt n z c v r = (λ i. not (zero-with_flags n z c v r i) && same (negative-with_flags n z c v r i) (overflow-with_flags n z c v r i))
 
-pub holds-le : (n z c v : Bool) (r : Regs) → holds 13 (with_flags n z c v r) ≡ not (not z && same n v)
+pub holds-le : (n z c v : Bool) (r : Regs) → holds LE (with_flags n z c v r) ≡ not (not z && same n v)
 unfolding holds even_condition
 holds-le n z c v r = (λ i. not (not (zero-with_flags n z c v r i) && same (negative-with_flags n z c v r i) (overflow-with_flags n z c v r i)))

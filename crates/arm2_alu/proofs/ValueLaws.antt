@@ -338,15 +338,6 @@ amount-shifted r amount kind rm few four low =
     (λ i. shifted_by_field (fields.2 i) (whole_operand r 8 (fields.4 i)) (fields.1 i) (carry r))
     ∙ ap (λ w. shifted_by_field kind w amount (carry r)) (whole-register r 8 rm low)
 
--- an operand below 16 is a register that isn't shifted
-pub amount-unshifted : (r : Regs) (op2 : ℕ) → op2 < 16 → amount_operand r op2 ≡ record { value = whole_operand r 8 op2; carry = carry r }
-unfolding amount_operand
-amount-unshifted r op2 small =
-    let kind : bits op2 6 5 ≡ 0 = omega (arith, small) in
-    let amount : bits op2 11 7 ≡ 0 = omega (arith, small) in
-    let register : bits op2 3 0 ≡ op2 = omega (arith, small) in
-    (λ i. shifted_by_field (kind i) (whole_operand r 8 (register i)) (amount i) (carry r)) ∙ field-lsl_0 (whole_operand r 8 op2) (carry r)
-
 pub amount-plain : (r : Regs) (rm : ℕ) → rm < 15 → amount_operand r rm ≡ record { value = register r rm; carry = carry r }
 amount-plain r rm low =
     ap (amount_operand r) (let e : rm ≡ 0 * 2 ^ 7 + 0 * 2 ^ 5 + rm = omega arith in e)

@@ -1,5 +1,5 @@
 -- What registers and flags take of a result.
-use Rattle.std.specs.Prelude.{ℕ, ◌==◌, Bool, if◌then◌else◌}
+use Rattle.std.specs.Prelude.{ℕ, ◌==◌, if◌then◌else◌}
 use Rattle.arm_isa.specs.Fields.{bit}
 use Rattle.arm_isa.specs.Numbers.{R15}
 use Rattle.arm2_alu.specs.declared.operations.Computed.{Computed}

@@ -4,8 +4,9 @@ ghost use Rattle.arm_isa.specs.Immediates.{immediate_value, turns_of};
 ghost use Rattle.arm2_alu.specs.Operands.{by_register, ahead_of, immediate_operand, amount_operand, register_operand, second_operand};
 
 use crate::regs::Regs;
-use crate::shifts::{Shifted, shift, shift_by_field};
+use crate::shifts::{Shifted, shift, shift_by_field, shift_left_by_field};
 use arm_isa::bit;
+use arm_isa::numbers::LSL;
 
 /// Whether a second operand has the amount of its shift in a register.
 #[inline]
@@ -53,11 +54,11 @@ pub fn amount_operand(regs: &Regs, op2: u16) -> Shifted
 {
     let value = regs.whole_operand(8, register_at(op2, 0));
     let carry = regs.has_carry();
-    if op2 < 0x10 {
-        Shifted { value, carry }
+    let kind = ((op2 >> 5) % 4) as u8;
+    let amount = u32::from(op2 >> 7);
+    if kind == LSL {
+        shift_left_by_field(value, amount, carry)
     } else {
-        let kind = ((op2 >> 5) % 4) as u8;
-        let amount = u32::from(op2 >> 7);
         shift_by_field(kind, value, amount, carry)
     }
 }

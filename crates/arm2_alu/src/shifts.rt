@@ -15,6 +15,7 @@ pub struct Shifted {
 }
 
 #[tactic(auto, using(crate::proofs::ShiftLaws::left_laws), unfolding(crate::specs::Shifts::shifted_left))]
+#[inline(always)]
 fn shift_left(n: u32, by: u32) -> Shifted
     requires { by < 256 }
     ensures { result ≡ shifted_left n by }
@@ -102,6 +103,20 @@ pub fn shift(kind: u8, n: u32, by: u32, carry: bool) -> Shifted
         LSR => shift_right(n, by),
         ASR => shift_signed(n, by),
         _ => turn_right(n, by),
+    }
+}
+
+#[tactic(auto, unfolding(crate::specs::Shifts::shifted_by_field, crate::specs::Shifts::shifted))]
+/// LSL by an amount of five bits in the instruction, which is the most common shift.
+#[inline(always)]
+pub fn shift_left_by_field(n: u32, by: u32, carry: bool) -> Shifted
+    requires { by < 32 }
+    ensures { result ≡ shifted_by_field LSL n by carry }
+{
+    if by == 0 {
+        Shifted { value: n, carry }
+    } else {
+        shift_left(n, by)
     }
 }
 

@@ -1,6 +1,6 @@
 -- Reads and writes of a memory.
 use Rattle.std.proofs.Common.{◌≡◌, ℕ, ◌+◌, ◌-◌, ◌*◌, ◌^◌, ◌<◌, ◌≤◌, ◌⊎◌, Bool, true, Some, refl, List, length, slice_index, inl, inr, sym, ap, ◌∙◌, arith}
-use Rattle.bv_base.specs.Words.{word_bytes, word_at, put_at}
+use Rattle.bv_base.specs.Words.{word_at}
 use Rattle.bv_base.proofs.Words.{length-put_at, put_at_inside, put_at_below, put_at_above, word_at-put_at}
 use Rattle.arm2_cpu.specs.Memory.{Space, byte_at, word_in, with_bytes, with_word, read_byte, read_word}
 

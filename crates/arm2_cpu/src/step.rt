@@ -132,7 +132,7 @@ fn fetch_and_execute<M: Memory>(regs: &mut Regs, mem: &mut M) -> CpuEvent
 
 /// Makes one instruction of the ARM2 (VL86C010 (ARM2) data manual): the one at the PC, in the current mode. The registers
 /// and the memory are those that it leaves; after a trap they are as they were.
-#[inline]
+#[inline(always)]
 pub fn step_cpu<M: Memory>(regs: &mut Regs, mem: &mut M) -> CpuEvent
     ensures value { cpu_step M.space regs.old (M.bytes mem.old) ≡ record { event = result; regs = regs.new; bytes = M.bytes mem.new } }
     ensures valid { IsValidRegs regs.new }

@@ -69,7 +69,7 @@ reads_word bytes words index w is within small so_far =
     ∙ ap (λ l. flat_map word_bytes words ++ l) (first_word rest long each ∙ ap word_bytes (sym is))
     ∙ sym (flat_map-more words w)
 
--- what stands behind a place, as a slice to the end gives it
+-- what follows a place, as a slice to the end gives it
 pub slice_from : (bytes : List ℕ) (n : ℕ) → take (length bytes - n) (drop n bytes) ≡ drop n bytes
 slice_from bytes n = take_all (length bytes - n) (drop n bytes) (omega (arith, length-drop n bytes))
 

@@ -3,3 +3,4 @@ pub mod Images
 mod Outputs
 pub mod StepLaws
 mod Stretches
+mod Logs

@@ -72,7 +72,7 @@ abbrev pub HasAt : List ℕ → ℕ → List ℕ → Type 0
 HasAt ram a [] = Unit {0}
 HasAt ram a (w ∷ ws) = (fetched ram a ≡ Some w) × HasAt ram (a + 4) ws
 
--- what stands behind so many bytes
+-- what follows other bytes
 slice_index-append : (front back : List ℕ) (a k : ℕ) → length front ≡ a → slice_index (front ++ back) (a + k) ≡ slice_index back k
 slice_index-append front back a k is = grind (arith, common_steps)
 

@@ -10,7 +10,7 @@ one_plain_step step n old now next stands goes =
     run-going step n 1 old now [] stands ∙ ap (with_front []) (run-suc step zero now [] ∙ ap (λ t. after_turn t (run step zero) []) goes ∙ run-zero step next [])
 
 -- a loop goes on after steps that write nothing
-pub so_far_plainly : {S E : Type 0} (step : S → Turn S E) (old now : S) (bound left : ℕ) (before written : Option (List ℕ)) (count : ℕ)
+abbrev pub so_far_plainly : {S E : Type 0} (step : S → Turn S E) (old now : S) (bound left : ℕ) (before written : Option (List ℕ)) (count : ℕ)
     → IsSoFar step old bound left now before written 0 count
     → (n less : ℕ) (next : S) → run step n now [] ≡ Going next [] → left ≡ less + n → count + n ≡ min (count + n) (2 ^ 64 - 1)
     → IsSoFar step old bound less next before written 0 (count + n)

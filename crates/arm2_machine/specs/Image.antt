@@ -25,7 +25,7 @@ pub record MagicEnds (bytes : List ℕ) (at : ℕ) : Type 0 where
   pub differs : at < 4 → slice_get bytes at ≢ slice_get magic at
 
 -- Why bytes are no image, at a place: one of the first four is wrong or missing there; or the number of words is cut
--- off, at the bytes' end; or they end before or behind the words that they should have, at the smaller of the two ends.
+-- off, at the bytes' end; or they end before or after the words that they should have, at the smaller of the two ends.
 pub data NotImage (bytes : List ℕ) (at : ℕ) : Type 0 where
   Unlike : MagicEnds bytes at → at < 4 → NotImage bytes at
   CutOff : MagicEnds bytes 4 → length bytes < 8 → at ≡ length bytes → NotImage bytes at
@@ -37,7 +37,7 @@ pub record IsTooLong (bytes : List ℕ) : Type 0 where
   pub whole : 8 ≤ length bytes
   pub long : image_words < word_count bytes
 
--- the bytes have the magic, a number of words, and as many bytes behind it as the words have
+-- the bytes have the magic, a number of words, and as many bytes after it as the words have
 pub record IsWhole (bytes : List ℕ) (count : ℕ) : Type 0 where
   pub magic : MagicEnds bytes 4
   pub is_count : count ≡ word_count bytes

@@ -6,3 +6,4 @@ pub mod Step
 pub mod Stretch
 pub mod Board
 pub mod Image
+pub mod Writes

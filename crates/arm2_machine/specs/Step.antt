@@ -39,7 +39,7 @@ board_step m =
     if is_at_pad m.regs then Goes (record m { regs = entered m.regs return_entry }) []
     else instructed m (cpu_step board_space m.regs m.ram)
 
--- what the board shows after at most so many instructions of an image
+-- what the board shows of an image after at most this many steps
 abbrev pub board_run : List ℕ → List ℕ → ℕ → Outcome
 board_run words input bound = outcome_of (λ m. arena_of m.ram) (run board_step bound (loaded words input) [])
 

@@ -43,7 +43,7 @@ is_character number = nat_le swi_character number && nat_lt number (swi_characte
 abbrev pub called_by_user : Machine → ℕ → ℕ → Turn Machine End
 called_by_user m at number = if is_character number then Goes m ((number % 256) ∷ []) else refused m at
 
--- What a call does, by its number and the mode; the PC is behind its instruction, which stands at the address.
+-- What a call does, by its number and the mode. The address is that of its instruction, and the PC that of the next.
 abbrev pub called : Machine → ℕ → ℕ → Turn Machine End
 called m at number =
     if number == swi_write then Goes m ((slice_index m.regs.low 0 % 256) ∷ [])

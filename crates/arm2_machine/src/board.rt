@@ -6,6 +6,7 @@ ghost use Rattle.bv_io.specs.Shelf.{Rose};
 ghost use Rattle.bv_io.specs.Sink.{with_bytes, WritesPart};
 ghost use Rattle.arm2_machine.specs.Machine.{loaded, arena_of};
 ghost use Rattle.arm2_machine.specs.Step.{board_step, bytes_of};
+ghost use Rattle.arm2_machine.specs.Writes.{byte_writes, FailsAtByte};
 
 use crate::machine::Machine;
 use crate::step::{Output, StepOutcome};
@@ -39,6 +40,8 @@ fn write<O: Sink>(out: &mut O, output: Output) -> Result<(), SinkFault>
     ensures part { OnErr result (WritesPart (O.written out.old) (bytes_of output) (O.written out.new)) }
     ensures failed { OnErr result (Rose (O.faults out.old) (O.faults out.new)) }
     ensures faults { O.faults out.old ≤ O.faults out.new }
+    ensures each_byte { OnOk result (O.log out.new ≡ byte_writes (bytes_of output) (O.log out.old)) }
+    ensures fault_byte { OnErr result (FailsAtByte (bytes_of output) (O.log out.old) (O.log out.new)) }
 {
     match output {
         Output::Nothing => Ok(()),
@@ -103,14 +106,18 @@ impl Board {
             ≡ progress_of end self.new.machine (output_so_far (run board_step bound self.old.machine []))) }
         ensures written { OnOk result
             (O.written out.new ≡ with_bytes (O.written out.old) (output_so_far (run board_step bound self.old.machine []))) }
+        ensures each_byte { OnOk result
+            (O.log out.new ≡ byte_writes (output_so_far (run board_step bound self.old.machine [])) (O.log out.old)) }
         ensures closed { IfOk result (λ end. self.new.closed ≡ is_end end) }
         ensures steps { OnOk result
             (self.new.steps ≡ min (self.old.steps + steps_made board_step bound self.old.machine) (2 ^ 64 - 1)) }
 
-        // After a fault some first part of the run's output was written, and the board stands behind the instruction at whose
-        // output the sink failed.
+        // After a fault some first part of the run's output was written, and the board is at the instruction after the one at
+        // whose output the sink failed.
         ensures fault { OnErr result
             (WritesPart (O.written out.old) (output_so_far (run board_step bound self.old.machine [])) (O.written out.new)) }
+        ensures fault_byte { OnErr result
+            (FailsAtByte (output_so_far (run board_step bound self.old.machine [])) (O.log out.old) (O.log out.new)) }
         ensures fault_at { OnErr result (HasFaulted bound self.old self.new (O.written out.old) (O.written out.new)) }
         ensures fault_closes { OnErr result (self.new.closed ≡ true) }
         ensures cause { OnErr result (Rose (O.faults out.old) (O.faults out.new)) }

@@ -1,3 +1,4 @@
+//! Image files: the bytes of words, and the words of bytes.
 ghost use Rattle.std.specs.Prelude.{◌≡◌, ◌≤◌, ◌<◌, ◌↔◌, IsTrue, length, slice_get, IfOk, IfErr};
 ghost use Rattle.arm2_machine.specs.Image.{magic, ImageOf, HasOneImage, ExplainsImage, MagicEnds, IsWhole};
 ghost use Rattle.bv_base.specs.Limits.{image_words};

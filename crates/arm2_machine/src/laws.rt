@@ -1,3 +1,4 @@
+//! What holds of runs in several calls.
 ghost use Rattle.std.specs.Prelude.{◌≡◌, ℕ, ◌+◌, List, []};
 ghost use Rattle.bv_run.specs.Runs.{Going, Ended, End, run, with_front, steps_made};
 ghost use Rattle.arm2_machine.specs.Machine.{Machine};

@@ -77,7 +77,7 @@ impl Machine {
         StepOutcome::Continued(Output::Nothing)
     }
 
-    /// Takes the trap of a call that isn't there, whose instruction stands at the address.
+    /// Takes the trap of a call that isn't there, whose instruction is at the address.
     pub(crate) fn refuse(&mut self, at: Pc) -> StepOutcome
         ensures { refused self.old at ≡ turn_of result self.new }
     {

@@ -63,13 +63,19 @@ impl Machine {
         'plain: loop {
             let at = self.regs.pc;
             match self.instruct() {
-                CpuEvent::Ran if before + 1 < most => before += 1,
+                CpuEvent::Ran => {
+                    if before + 1 == most {
+                        let event = CpuEvent::Ran;
+                        return Stretch { before, at, event };
+                    }
+                    before += 1;
+                }
                 event => return Stretch { before, at, event },
             }
         }
     }
 
-    /// Carries out what an instruction's event comes to. The instruction stands at the address.
+    /// Carries out what an instruction's event comes to. The instruction is at the address.
     pub(crate) fn follow(&mut self, at: Pc, event: CpuEvent) -> StepOutcome
         ensures { after_event self.old at event ≡ turn_of result self.new }
     {

@@ -57,7 +57,7 @@ impl Machine {
         }
     }
 
-    /// Carries out the call with a number, whose instruction stands at the address.
+    /// Carries out the call with a number, whose instruction is at the address.
     pub(crate) fn call(&mut self, at: Pc, number: u32) -> StepOutcome
         ensures { called self.old at number ≡ turn_of result self.new }
     {

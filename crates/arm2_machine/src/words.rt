@@ -1,3 +1,4 @@
+//! The bytes of words.
 ghost use Rattle.std.specs.Prelude.{◌≡◌, ◌≤◌, ◌++◌, length, flat_map, IfOk, OnOk};
 ghost use Rattle.bv_base.specs.Limits.{image_words};
 ghost use Rattle.bv_base.specs.Words.{word_bytes};

@@ -102,9 +102,11 @@ fn upper_class(word: u32) -> Class
 pub fn class_of(word: u32) -> Class
     ensures { result ≡ class_of word }
 {
-    match bits(word, 27, 26) {
-        0b00 => data_class(word),
-        0b01 => single_class(word),
-        _ => upper_class(word),
+    if bits(word, 27, 26) == 0 {
+        data_class(word)
+    } else if bits(word, 27, 27) == 0 {
+        single_class(word)
+    } else {
+        upper_class(word)
     }
 }
