@@ -8,3 +8,8 @@ mod LineBytes
 mod Numbers
 mod Shown
 mod ListedParts
+mod SourceBytes
+mod Again
+mod Theorem
+mod OneAnswer
+mod WorkedRows
