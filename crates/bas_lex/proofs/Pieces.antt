@@ -78,7 +78,7 @@ takes_tailed at text mode list list' token number tail a b text_is is number_is 
   added = list_is ∙ (λ i. list ++ (a_is ∙ ap (λ n. symbol_at at mode (kinds.Token n) 1) number_is) i ∷ b_is i ∷ []);
 }
 
--- the longest symbol of so many bytes as the front of a text
+-- the longest symbol of n bytes as the front of a text
 longest_front : (asm : Bool) (text : List ℕ) (kind : SymKind) (size : ℕ) (l : Longest (IsSymbol asm) text kind size) → (text ≡ l.begins.bytes ++ drop size text) × Longest (IsSymbol asm) (l.begins.bytes ++ drop size text) kind (length l.begins.bytes)
 longest_front asm text kind size l =
     let b = l.begins in

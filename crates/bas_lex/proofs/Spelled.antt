@@ -17,7 +17,7 @@ middle front part back from e =
     let size : from + length part - from ≡ length part = omega arith in
     (λ i. take (size i) (drop (e i) (front ++ (part ++ back)))) ∙ ap (λ l. take (length part) l) (drop-append_seam front (part ++ back)) ∙ take-append_seam part back
 
--- a symbol of so many bytes at the place behind a front
+-- a symbol of n bytes at the place behind a front
 spelled_at : (text front part back : List ℕ) (from : ℕ) (mode : Mode) (kind : SymKind) → text ≡ front ++ (part ++ back) → from ≡ length front
     → (((asm : Bool) × (rest : List ℕ) × IsSymbol asm kind part rest) ⊎ IsTailed kind part) → IsSpelled text (symbol_at from mode kind (length part))
 spelled_at text front part back from mode kind text_is from_is is =

@@ -55,7 +55,7 @@ closes_behind_other c more n other closes = record {
 closes_here : (rest : List ℕ) → Closes (quotation_mark ∷ rest) 1
 closes_here rest = record { contents = []; rest = rest; split = refl; size_is = refl }
 
--- behind so many bytes
+-- behind n bytes
 abbrev further : ℕ → Option ℕ → Option ℕ
 further n None = None
 further n (Some k) = Some (n + k)
@@ -111,7 +111,7 @@ last_here rest single = (closes_here rest, λ other closes. by_case other (where
     by_case other (BehindTwo after n e closes size_is) = absurd (not_first is_quote rest after quotation_mark (same_tail _ _ _ _ e) refl single)
     by_case other (BehindOther c after n e not_mark closes size_is) = absurd (not_mark (sym (same_head _ _ _ _ e)))
 
--- the last closing mark of the rest, behind a front of so many bytes, or else that of the front
+-- the last closing mark of the rest, behind a front of n bytes, or else that of the front
 abbrev pub found : Option ℕ → ℕ → Option ℕ → Option ℕ
 found last at None = last
 found last at (Some k) = Some (at + k)

@@ -11,7 +11,7 @@ use Rattle.bas_lex.specs.declared.sign_numbers.TheConstants.{COLON, OPEN_SQUARE,
 use Rattle.bas_lex.specs.Bytes.{space, semicolon, backslash}
 use Rattle.bas_lex.specs.Kinds.{IsSymbol}
 
--- A symbol of this kind and of so many bytes begins the text.
+-- A symbol of this kind and of n bytes begins the text.
 pub record Begins (symbol : SymKind → List ℕ → List ℕ → Type 0) (text : List ℕ) (kind : SymKind) (size : ℕ) : Type 0 where
   pub bytes : List ℕ
   pub rest : List ℕ
@@ -90,7 +90,7 @@ Cuts mode text [] last rest = (last ≡ mode) × (rest ≡ text)
 Cuts mode text (piece ∷ pieces) last rest =
     (next : List ℕ) × Fits mode.asm piece text next × Cuts (behind mode piece) next pieces last rest
 
--- A symbol of so many bytes at a place. It is in the assembler where the assembler is on before and behind it.
+-- A symbol of n bytes at a place. It is in the assembler where the assembler is on before and behind it.
 abbrev pub symbol_at : ℕ → Mode → SymKind → ℕ → Sym
 symbol_at from mode kind size =
     record { kind = kind; from = from; to = from + size; asm = mode.asm && (behind_symbol mode kind).asm }

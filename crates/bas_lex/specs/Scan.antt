@@ -147,7 +147,7 @@ IsPart text parts.Closing = (rest : List ℕ) × (text ≡ quotation_mark ∷ re
 IsPart text (parts.Other after) = (c : ℕ) × (text ≡ c ∷ after.now) × (c ≢ quotation_mark)
 IsPart text parts.End = text ≡ []
 
--- So many bytes stand up to a quotation mark that closes a string, and with it.
+-- The first bytes of a text, as many as the size says, end with the quotation mark that closes a string.
 pub record Closes (text : List ℕ) (size : ℕ) : Type 0 where
   pub contents : List ℕ
   pub rest : List ℕ

@@ -8,4 +8,8 @@ mod LineBytes
 mod Numbers
 mod Shown
 mod ListedParts
-pub mod Verdicts
+mod SourceBytes
+mod Again
+mod Theorem
+pub mod OneAnswer
+mod WorkedRows

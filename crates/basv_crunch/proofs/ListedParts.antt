@@ -1,5 +1,5 @@
 -- The tokens of a body list as the body, part by part.
-use Rattle.std.proofs.Common.{◌≡◌, ◌≢◌, ◌⊎◌, inl, inr, ℕ, suc, ◌+◌, ◌<◌, Bool, true, false, not, ◌&&◌, ◌||◌, ◌==◌, nat_le, nat_lt, if◌then◌else◌, List, [], ◌∷◌, ◌++◌, length, take, drop, take_while, take-append-drop, decimal, flat_map, Option, Some, None, Result, Ok, Err, IfOk, Vec, Global, refl, sym, ap, subst, ◌∙◌, arith, true≢false, eqb-true, eq-eqb, ltb-true}
+use Rattle.std.proofs.Common.{◌≡◌, ◌≢◌, ◌⊎◌, inl, inr, ℕ, suc, ◌+◌, ◌<◌, Bool, true, false, not, ◌&&◌, ◌||◌, ◌==◌, nat_le, nat_lt, if◌then◌else◌, List, [], ◌∷◌, ◌++◌, length, take, drop, take_while, take-append-drop, decimal, flat_map, Option, Some, None, refl, sym, ap, subst, ◌∙◌, arith, true≢false, eqb-true, eq-eqb, ltb-true}
 use Rattle.std.proofs.Math.Seq.{take-append_seam}
 use Rattle.std.specs.Char.{digit_value, is_ascii_digit}
 use Rattle.std.specs.List.{AllByRecursion}
@@ -15,10 +15,8 @@ use Rattle.bv_token.specs.Names.{begins_name, is_in_name}
 use Rattle.bv_token.specs.Tokens.{keyword_of_token}
 use Rattle.bv_token.specs.Words.{word_of, LongestWord}
 use Rattle.token_file.specs.declared.line.Line.{Line}
-use Rattle.token_file.specs.Lines.{Lines, HasOneReading}
 use Rattle.lister.specs.Listing.{justified, listed, listing}
 use Rattle.lister.specs.Listings.{listings}
-use Rattle.basv_crunch.specs.declared.error.CrunchError.{CrunchError}
 use Rattle.basv_crunch.specs.declared.part.Kind.TheVariants as kinds
 use Rattle.basv_crunch.specs.declared.part.Part.{Part}
 use Rattle.basv_crunch.specs.declared.part.Place.{Place}
@@ -26,7 +24,7 @@ use Rattle.basv_crunch.specs.declared.part.Place.TheVariants as places
 use Rattle.basv_crunch.specs.Pieces.{pieces}
 use Rattle.basv_crunch.specs.Parts.{part_of, unless_none, kept, called, is_reference, referred, Before, token_at, worded, row, single, or_else, FirstOf, FirstPart, part_bytes, behind_word, behind_space, behind_comma, behind_part}
 use Rattle.basv_crunch.specs.Crunched.{CutInto, parts_bytes, CrunchesTo, body_of, IsLineOf, AreLines, kept_pieces, IsText}
-use Rattle.basv_crunch.specs.NormalForm.{normal_line, normal_form, ReadsBack}
+use Rattle.basv_crunch.specs.NormalForm.{normal_line, normal_form}
 use Rattle.basv_crunch.proofs.Rows.{passes, fails, row_is, row_passes, all_map}
 use Rattle.basv_crunch.proofs.Numbers.{digits_are}
 use Rattle.basv_crunch.proofs.Shown.{Lists, IsPlain, low_listed, row_listed, name_plain, digit_plain, reference_listed, token_listed}
@@ -250,14 +248,3 @@ lines_listed (p ∷ ps) (l ∷ ls) are = (λ i. line_listed p l are.0 i ++ lines
 -- the listing of a text's lines is the text in normal form
 pub text_listed : (text : List ℕ) (lines : List Line) → IsText text lines → listings lines ≡ normal_form text
 text_listed text lines is = lines_listed (kept_pieces (pieces text)) lines is
-
--- the file that the end answers reads back, and lists as the text in normal form
-pub reads_or_not : (text : List ℕ) (lines lines' : List Line) (answer : Result (Vec ℕ Global) CrunchError) → IsText text lines → lines' ≡ lines → IfOk answer (λ file. Lines file.items lines' × HasOneReading file.items lines') → IfOk answer (λ file. ReadsBack text file.items)
-reads_or_not text lines lines' (Ok file) is same ok = record {
-  lines = lines;
-  is_text = is;
-  read = subst (Lines file.items) same ok.0;
-  once = subst (HasOneReading file.items) same ok.1;
-  listing = text_listed text lines is;
-}
-reads_or_not text lines lines' (Err error) is same ok = tt

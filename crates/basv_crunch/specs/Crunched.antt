@@ -93,10 +93,10 @@ ExplainsCrunch text (errors.BadText line) = IsBadText text line
 ExplainsCrunch text errors.TooLong = IsTooLong text
 ExplainsCrunch text errors.NoMemory = Unit {0}
 
--- A text has one file, or one first bad piece, or lines whose file is too long, and no two of these.
+-- A text has one file at most, one first bad piece at most, or is too long, and never two of these.
 pub record OneAnswer (text : List ℕ) : Type 0 where
-  pub file_once : (a b : List ℕ) → IsFileOf text a → IsFileOf text b → a ≡ b
-  pub bad_once : (a b : ℕ) → IsBadText text a → IsBadText text b → a ≡ b
+  pub one_file : (a b : List ℕ) → IsFileOf text a → IsFileOf text b → a ≡ b
+  pub one_bad : (a b : ℕ) → IsBadText text a → IsBadText text b → a ≡ b
   pub file_or_bad : (file : List ℕ) (place : ℕ) → IsFileOf text file → IsBadText text place → ⊥
   pub file_or_long : (file : List ℕ) → IsFileOf text file → IsTooLong text → ⊥
   pub bad_or_long : (place : ℕ) → IsBadText text place → IsTooLong text → ⊥

@@ -5,7 +5,7 @@ use Rattle.bv_io.specs.declared.shelf.PutError.TheVariants as put_errors
 use Rattle.bv_io.specs.Log.{Put, NotPut}
 use Rattle.bv_io.specs.Shelf.{Rose, Tells}
 use Rattle.basv_crunch.specs.Crunched.{IsFileOf, IsBadText, IsTooLong}
-use Rattle.basv_crunch.proofs.Verdicts.{one_answer}
+use Rattle.basv_crunch.proofs.OneAnswer.{one_answer}
 use Rattle.basv_top.specs.declared.status.Status.TheVariants as statuses
 use Rattle.basv_top.specs.Ending as endings
 use Rattle.basv_top.specs.Ending.{Ending, status_of, refusal_status, long_text, long_crunched}

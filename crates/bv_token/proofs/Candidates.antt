@@ -1,5 +1,6 @@
 -- The longest of the words of the tokens before a place is that of all tokens, once all places were seen.
 use Rattle.std.proofs.Common.{◌≡◌, ◌⊎◌, inl, inr, ℕ, suc, ◌+◌, ◌-◌, ◌*◌, ◌/◌, ◌%◌, ◌<◌, ◌≤◌, Bool, true, false, ◌&&◌, ◌||◌, ◌==◌, nat_le, nat_lt, if◌then◌else◌, List, [], ◌∷◌, length, map, slice_index, Option, Some, None, MatchOption, refl, sym, ap, subst, ◌∙◌, arith, ltb-true, ltb-false, lt-ltb, eqb-true}
+use Rattle.std.specs.List.{list_all}
 use Rattle.std.proofs.lemmas.Bool.{and_parts, cases_lt}
 use Rattle.bv_base.proofs.Computed.{all_below, all_below-at}
 use Rattle.bv_token.specs.Tokens.{Pair, keyword_of_token, keyword_of_pair, pairs}
@@ -69,6 +70,20 @@ all_numbers = refl
 
 pub token_number : (token : ℕ) (word : List ℕ) → word_of token ≡ Some word → is_token_number token ≡ true
 token_number token word e = let k = complete token word e in ap is_token_number (sym k.2) ∙ all_below-at 135 (λ k. is_token_number (candidate k)) all_numbers k.0 k.1
+
+-- the bytes of words are visible ones
+abbrev is_visible : Option (List ℕ) → Bool
+is_visible None = true
+is_visible (Some word) = list_all (nat_le 33) word
+
+all_visible : all_below 135 (λ k. is_visible (word_of (candidate k))) ≡ true
+unfolding keyword_of_token
+all_visible = refl
+
+pub word_visible : (token : ℕ) (word : List ℕ) → word_of token ≡ Some word → list_all (nat_le 33) word ≡ true
+word_visible token word e =
+    let k = complete token word e in
+    ap is_visible (sym e ∙ ap word_of (sym k.2)) ∙ all_below-at 135 (λ k. is_visible (word_of (candidate k))) all_visible k.0 k.1
 
 -- a token's word has one size
 one_size : (text : List ℕ) (token m n : ℕ) → BeginsWord text token m → BeginsWord text token n → m ≡ n

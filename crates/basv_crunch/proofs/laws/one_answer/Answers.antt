@@ -1,4 +1,4 @@
-use Rattle.basv_crunch.proofs.Verdicts.{one_answer}
+use Rattle.basv_crunch.proofs.OneAnswer.{one_answer}
 use Rattle.basv_crunch.proofs.laws.one_answer.Goals as goal
 
 pub returns : goal.returns

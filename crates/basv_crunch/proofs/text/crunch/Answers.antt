@@ -4,7 +4,7 @@ use Rattle.token_file.specs.Lines.{IsLine}
 use Rattle.basv_crunch.specs.Pieces.{pieces}
 use Rattle.basv_crunch.specs.Crunched.{kept_pieces}
 use Rattle.basv_crunch.proofs.LineBytes.{all_lines}
-use Rattle.basv_crunch.proofs.ListedParts.{reads_or_not}
+use Rattle.basv_crunch.proofs.Theorem.{reads_or_not}
 use Rattle.basv_crunch.proofs.Texts.{so_far_next, so_far_done, file_or_not, finished_or_not, only_or_not}
 use Rattle.basv_crunch.proofs.text.crunch.Goals as goal
 
@@ -46,7 +46,7 @@ returns-in-None-clause-reading c =
     let rest = c.pieces.rest.now in
     let cut = subst (λ (o : Option (Bor (List ℕ))). MatchOption o (pieces rest ≡ piece ∷ []) (λ a. pieces rest ≡ piece ∷ pieces a.now)) c.in-None.is c.split_piece.ensures.pieces in
     let is = so_far_done c.args.text.now rest piece c.pieces.lines.items c.push_piece.new.lines.items c.pieces.number cut c.in_ok-push_piece.ensures.ok c.pieces.invariant in
-    reads_or_not c.args.text.now c.push_piece.new.lines.items c.as_slice.result.now c.finish.result is c.as_slice.ensures.value c.finish.ensures.read
+    reads_or_not c.args.text.now c.push_piece.new.lines.items c.as_slice.result.now c.finish.result is c.as_slice.ensures.value c.finish.ensures.ok c.finish.ensures.read
 
 pub returns-in-None-clause-only : goal.returns-in-None-clause-only
 returns-in-None-clause-only c = only_or_not c.args.text.now c.finish.result (returns-in-None-clause-ok c)
