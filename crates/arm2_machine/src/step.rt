@@ -28,7 +28,7 @@ pub enum StepOutcome {
 
 /// A stretch of instructions: the number of those before the last, which have no event, and the last one's address and
 /// event.
-#[derive(Clone, Copy, Debug, PartialEq, Eq)]
+#[derive(Clone, Copy)]
 pub struct Stretch {
     pub before: u64,
     pub at: Pc,
