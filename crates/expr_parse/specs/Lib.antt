@@ -3,3 +3,4 @@ pub mod Longest
 pub mod Prefixes
 pub mod Nests
 pub mod Parsed
+pub mod Terminals

@@ -3,6 +3,7 @@
 //! Each rule of the grammar is a function whose contract is an equation with the rule's function in `specs/Parse.antt`.
 #![tactic(auto)]
 
+mod classify;
 mod found;
 mod grammar;
 mod laws;
@@ -15,7 +16,8 @@ mod top;
 mod trees;
 mod words;
 
+pub use classify::terminals;
 pub use found::Found;
 pub use laws::one_tree;
 pub use parser::{longest_num, longest_text};
-pub use top::{ParseError, front_num, front_text};
+pub use top::{ParseError, front_num, front_text, parse_num, parse_str};

@@ -1,9 +1,13 @@
+ghost use Rattle.std.specs.Prelude.{◌<◌, ◌^◌, length};
 ghost use Rattle.expr_parse.specs.Parsed.{Parsed};
+ghost use Rattle.expr_parse.specs.Terminals.{AreWithin, terminals_of};
 ghost use Rattle.bas_ast.specs.Expressions.{IsNum, IsStr};
 
+use crate::classify::terminals;
 use crate::parser::{longest_num, longest_text};
-use bas_ast::{NumExpr, StrExpr, Terminal};
-use std::alloc::Global;
+use bas_ast::{Name, NumExpr, StrExpr, Terminal};
+use bas_lex::Sym;
+use std::alloc::{AllocError, Global};
 
 /// Why nothing was parsed.
 #[derive(Debug, Clone, Copy, PartialEq, Eq, Drop)]
@@ -12,6 +16,49 @@ pub enum ParseError {
     Outside,
     /// There was no memory for the tree.
     NoMemory,
+}
+
+impl From<AllocError> for ParseError {
+    ghost use Rattle.std.specs.Prelude.{◌≡◌};
+    ghost use Rattle.expr_parse.specs.declared.top.ParseError.TheVariants.{NoMemory};
+
+    ghost from_gives = { λ _ error. error ≡ NoMemory };
+
+    fn from(_error: AllocError) -> ParseError {
+        ParseError::NoMemory
+    }
+}
+
+/// The longest number at the front of a line's symbols, and its number of symbols. A name in the tree is the place of
+/// its symbol, from 0.
+pub fn parse_num(
+    alloc: Global,
+    labels: &[Name],
+    text: &[u8],
+    syms: &[Sym],
+) -> Result<(NumExpr, usize), ParseError>
+    requires few { length syms.now < 2 ^ 16 }
+    requires within { AreWithin text.now syms.now }
+    ensures { Parsed (IsNum 1) (terminals_of labels.now text.now syms.now) result }
+{
+    let list = terminals(alloc, labels, text, syms)?;
+    front_num(alloc, list.as_slice())
+}
+
+/// The longest string at the front of a line's symbols, and its number of symbols. A name in the tree is the place of
+/// its symbol, from 0.
+pub fn parse_str(
+    alloc: Global,
+    labels: &[Name],
+    text: &[u8],
+    syms: &[Sym],
+) -> Result<(StrExpr, usize), ParseError>
+    requires few { length syms.now < 2 ^ 16 }
+    requires within { AreWithin text.now syms.now }
+    ensures { Parsed (IsStr 4) (terminals_of labels.now text.now syms.now) result }
+{
+    let list = terminals(alloc, labels, text, syms)?;
+    front_text(alloc, list.as_slice())
 }
 
 /// The longest number at the front of a line's terminals, and its number of terminals.
