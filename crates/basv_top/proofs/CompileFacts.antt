@@ -1,5 +1,5 @@
 -- What `compile` promises follows from why it ends.
-use Rattle.std.proofs.Common.{◌≡◌, ◌≢◌, ◌⊎◌, inl, inr, ℕ, ◌≤◌, List, length, Some, None, refl, sym, ap, subst, ◌∙◌, arith}
+use Rattle.std.proofs.Common.{◌≡◌, ◌≢◌, ◌⊎◌, inl, inr, ℕ, List, Some, None, refl, ap, subst, ◌∙◌, arith}
 use Rattle.bv_base.specs.Limits.{file_bytes}
 use Rattle.bv_io.specs.declared.shelf.PutError.TheVariants as put_errors
 use Rattle.bv_io.specs.Log.{Put, NotPut}
@@ -14,8 +14,8 @@ use Rattle.basv_top.specs.declared.status.Status.TheVariants as statuses
 use Rattle.basv_top.specs.Ending as endings
 use Rattle.basv_top.specs.Ending.{Ending, status_of, refusal_status, long_file}
 use Rattle.basv_top.specs.Seen.{SeenShelf, SeenSink, Silent, Same}
-use Rattle.basv_top.specs.Taking.{IsContent, CannotRead, TakeFails}
-use Rattle.basv_top.specs.CompileCommand.{PutsImage, BytesEndCompile, EndsCompile, Compiles, MayWrite}
+use Rattle.basv_top.specs.Taking.{IsContent, CannotRead}
+use Rattle.basv_top.specs.CompileCommand.{PutsImage, EndsCompile, Compiles, MayWrite}
 use Rattle.basv_top.proofs.Taken.{taken_is, taken_before_is, missing≢taken, untaken_content, untaken_missing}
 use Rattle.basv_top.proofs.Statuses.{refused≢}
 

@@ -10,9 +10,9 @@ use Rattle.basv_top.specs.declared.status.Status.TheVariants as statuses
 use Rattle.basv_top.specs.Ending as endings
 use Rattle.basv_top.specs.Ending.{Ending, status_of, refusal_status, long_text, long_crunched}
 use Rattle.basv_top.specs.Seen.{SeenShelf, SeenSink, Silent, Same}
-use Rattle.basv_top.specs.Taking.{IsContent, CannotRead, TakeFails}
+use Rattle.basv_top.specs.Taking.{IsContent, CannotRead}
 use Rattle.basv_top.specs.CompileCommand.{MayWrite}
-use Rattle.basv_top.specs.CrunchCommand.{Uncrunchable, PutsFile, BytesEndCrunch, EndsCrunch, Crunches}
+use Rattle.basv_top.specs.CrunchCommand.{Uncrunchable, PutsFile, EndsCrunch, Crunches}
 use Rattle.basv_top.proofs.Taken.{taken_is, taken_before_is, missing≢taken, untaken_content, untaken_missing}
 use Rattle.basv_top.proofs.Statuses.{refused≢}
 

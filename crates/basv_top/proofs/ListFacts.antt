@@ -5,7 +5,7 @@ use Rattle.bv_io.specs.Log.{Wrote}
 use Rattle.bv_io.specs.Shelf.{Rose}
 use Rattle.bv_io.specs.Sink.{with_bytes}
 use Rattle.token_file.specs.declared.line.Line.{Line}
-use Rattle.token_file.specs.Lines.{Lines, Malformed}
+use Rattle.token_file.specs.Lines.{Lines}
 use Rattle.token_file.proofs.OneReading.{one_reading}
 use Rattle.bas_compile.specs.declared.refusal.Refusal.{Refusal}
 use Rattle.bas_compile.specs.declared.refusal.Refusal.TheVariants as refusals
@@ -15,8 +15,8 @@ use Rattle.basv_top.specs.Ending as endings
 use Rattle.basv_top.specs.Ending.{Ending, status_of, refusal_status, long_file}
 use Rattle.lister.specs.Listings.{listings}
 use Rattle.basv_top.specs.Seen.{SeenShelf, SeenSink, Silent, Same}
-use Rattle.basv_top.specs.Taking.{IsContent, CannotRead, TakeFails, Takes}
-use Rattle.basv_top.specs.ListCommand.{Unlistable, BytesEndList, EndsList, Lists}
+use Rattle.basv_top.specs.Taking.{IsContent, CannotRead, Takes}
+use Rattle.basv_top.specs.ListCommand.{Unlistable, EndsList, Lists}
 use Rattle.basv_top.proofs.Taken.{taken_is, missing≢taken, untaken_content, untaken_missing}
 use Rattle.basv_top.proofs.Statuses.{refused≢}
 

@@ -7,15 +7,14 @@ use Rattle.arm2_machine.specs.Image as images
 use Rattle.arm2_machine.specs.Image.{ImageOf, IsTooLong}
 use Rattle.arm2_machine.proofs.Images.{one_image, long≢no_image}
 use Rattle.bv_base.proofs.Words.{length-flat_map-word_bytes}
-use Rattle.bas_compile.specs.declared.refusal.Refusal.TheVariants as refusals
 use Rattle.basv_top.specs.declared.status.Status.TheVariants as statuses
 use Rattle.basv_top.specs.Ending as endings
 use Rattle.basv_top.specs.Ending.{Ending, status_of, refusal_status, end_status, long_image}
 use Rattle.basv_top.specs.Seen.{SeenShelf, SeenSink, Silent, Same}
 use Rattle.basv_top.specs.Taking.{IsContent, CannotRead, TakeFails, Takes}
-use Rattle.basv_top.specs.RunCommand.{HasRun, Unrunnable, WordsEndRun, BytesEndRun, EndsRun, IsRunStatus, Runs}
+use Rattle.basv_top.specs.RunCommand.{HasRun, Unrunnable, WordsEndRun, EndsRun, IsRunStatus, Runs}
 use Rattle.basv_top.proofs.Taken.{taken_is, missing≢taken, untaken_content, untaken_missing}
-use Rattle.basv_top.proofs.Statuses.{IsRefusalStatus, refused≢, refused≢run, run_has}
+use Rattle.basv_top.proofs.Statuses.{refused≢, refused≢run, run_has}
 
 -- an image has at most so many bytes
 image_is_short : (bytes words : List ℕ) → ImageOf bytes words → length bytes ≤ image_bytes

@@ -1,5 +1,5 @@
 -- The statuses of refusals, of runs, and of the other endings are apart.
-use Rattle.std.proofs.Common.{◌≡◌, sym, subst}
+use Rattle.std.proofs.Common.{◌≡◌, subst}
 use Rattle.bv_run.specs.declared.report.Report.TheVariants as reports
 use Rattle.bv_run.specs.declared.report.RunEnd.{RunEnd}
 use Rattle.bv_run.specs.declared.report.RunEnd.TheVariants as ends

@@ -1,5 +1,5 @@
 -- `compile FILE IMAGE`: why it ends as it does, and what it promises. This project's own.
-use Rattle.std.specs.Prelude.{◌≡◌, ◌≢◌, ◌⊎◌, ℕ, ◌≤◌, List, ◌∷◌, length, Some, None}
+use Rattle.std.specs.Prelude.{◌≡◌, ◌≢◌, ◌⊎◌, ℕ, List, ◌∷◌, Some, None}
 use Rattle.bv_base.specs.Limits.{file_bytes}
 use Rattle.bv_io.specs.declared.shelf.PutError.TheVariants as put_errors
 use Rattle.bv_io.specs.Log.{Took, Put, NotPut}

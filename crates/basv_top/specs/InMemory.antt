@@ -1,5 +1,5 @@
 -- What a shelf that never fails tells. This project's own.
-use Rattle.std.specs.Prelude.{ℕ, List, [], Some, None, unwrap_or}
+use Rattle.std.specs.Prelude.{List, [], Some, None, unwrap_or}
 use Rattle.std.specs.FinMap.{get}
 use Rattle.bv_io.specs.Files.{Held}
 use Rattle.bv_io.specs.Log.{Event}

@@ -1,5 +1,5 @@
 -- `run IMAGE`: why it ends as it does, and what it promises. This project's own.
-use Rattle.std.specs.Prelude.{◌≡◌, ◌⊎◌, ℕ, ◌<◌, ◌≤◌, List, [], length, Some, None}
+use Rattle.std.specs.Prelude.{◌≡◌, ◌⊎◌, ℕ, ◌<◌, ◌≤◌, List, length, Some, None}
 use Rattle.bv_base.specs.Limits.{image_bytes}
 use Rattle.bv_base.specs.Words.{AreWords}
 use Rattle.bv_io.specs.Shelf.{Rose}
@@ -13,7 +13,7 @@ use Rattle.arm2_machine.specs.Step.{board_run}
 use Rattle.bas_compile.specs.declared.refusal.Refusal.TheVariants as refusals
 use Rattle.basv_top.specs.declared.status.Status.{Status}
 use Rattle.basv_top.specs.declared.status.Status.TheVariants as statuses
-use Rattle.basv_top.specs.Ending.{Ending, Done, Usage, Refused, ReadFault, WriteFault, NotImage, Ran, status_of, end_status, long_image}
+use Rattle.basv_top.specs.Ending.{Ending, Refused, WriteFault, NotImage, Ran, status_of, end_status, long_image}
 use Rattle.basv_top.specs.Seen.{SeenShelf, SeenSink, Silent, Same}
 use Rattle.basv_top.specs.Taking.{IsContent, CannotRead, TakeFails, Takes}
 

@@ -35,11 +35,7 @@ fn read_list_or_run<'a>(name: &str, file: &'a str) -> Option<Command<'a>>
     None
 }
 
-fn read_compile_or_crunch<'a>(
-    name: &str,
-    from: &'a str,
-    to: &'a str,
-) -> Option<Command<'a>>
+fn read_compile_or_crunch<'a>(name: &str, from: &'a str, to: &'a str) -> Option<Command<'a>>
     ensures { option_map meant result ≡ command_of (name.now ∷ from.now ∷ to.now ∷ []) }
 {
     if name == "compile" && is_name(from) && is_name(to) {

@@ -32,12 +32,7 @@ fn put_image<'a, S: Shelf>(
 }
 
 /// Compiles the program under one name to an image under another.
-pub fn compile<'a, S: Shelf>(
-    alloc: Global,
-    file: &'a str,
-    image: &str,
-    shelf: &mut S,
-) -> Ending<'a>
+pub fn compile<'a, S: Shelf>(alloc: Global, file: &'a str, image: &str, shelf: &mut S) -> Ending<'a>
     ensures ends { EndsCompile (seen_shelf S.Shelf shelf.old) (seen_shelf S.Shelf shelf.new) file.now image.now (told result) }
     ensures others { (n : List ℕ) → n ≢ image.now → S.content shelf.new n ≡ S.content shelf.old n }
     ensures same { MayWrite (status_of (told result)) ⊎ Same (seen_shelf S.Shelf shelf.old) (seen_shelf S.Shelf shelf.new) }

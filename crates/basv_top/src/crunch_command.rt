@@ -35,12 +35,7 @@ fn put_file<'a, S: Shelf>(
 }
 
 /// Tokenises the text under one name to a program's file under another.
-pub fn crunch<'a, S: Shelf>(
-    alloc: Global,
-    text: &'a str,
-    file: &str,
-    shelf: &mut S,
-) -> Ending<'a>
+pub fn crunch<'a, S: Shelf>(alloc: Global, text: &'a str, file: &str, shelf: &mut S) -> Ending<'a>
     ensures ends { EndsCrunch (seen_shelf S.Shelf shelf.old) (seen_shelf S.Shelf shelf.new) text.now file.now (told result) }
     ensures others { (n : List ℕ) → n ≢ file.now → S.content shelf.new n ≡ S.content shelf.old n }
     ensures same { MayWrite (status_of (told result)) ⊎ Same (seen_shelf S.Shelf shelf.old) (seen_shelf S.Shelf shelf.new) }

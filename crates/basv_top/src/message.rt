@@ -10,8 +10,8 @@ use crate::ending::Ending;
 use crate::status::Status;
 use bas_compile::{Refusal, Which};
 use bv_io::{Sink, SinkFault};
-use bv_run::{Report, RunEnd, Trap};
 use bv_num::digit_byte;
+use bv_run::{Report, RunEnd, Trap};
 use itoa::Buffer;
 
 const USAGE: &[u8] =

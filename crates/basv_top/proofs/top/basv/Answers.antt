@@ -1,5 +1,4 @@
-use Rattle.std.proofs.Common.{Some, [], sym, subst}
-use Rattle.basv_top.specs.Command.{Listing, Compile, Run, Crunch}
+use Rattle.std.proofs.Common.{[], sym, subst}
 use Rattle.basv_top.specs.CompileCommand.{Compiles}
 use Rattle.basv_top.specs.CrunchCommand.{Crunches}
 use Rattle.basv_top.specs.Ending.{told}
