@@ -229,7 +229,7 @@ fn says(
 }
 
 const USAGE: &[u8] =
-    b"usage: basv list FILE / compile FILE IMAGE / interp FILE / run IMAGE / selftest SEED LINES\n";
+    b"usage: basv list FILE / compile FILE IMAGE / interp FILE / run IMAGE / selftest SEED LINES / crunch TEXT FILE\n";
 
 #[test]
 fn refusals_say_why(rt: HostRuntime) -> Result<(), Fail> {
@@ -268,6 +268,36 @@ fn refusals_say_why(rt: HostRuntime) -> Result<(), Fail> {
         )?
     );
     assert!(rt; says(alloc, &["list"], VDU_65, Status::Usage, USAGE)?);
+    Ok(())
+}
+
+#[test]
+fn texts_are_tokenised(rt: HostRuntime) -> Result<(), Fail> {
+    let alloc = rt.alloc();
+    let crunch = &["crunch", "f", "g"];
+    let mut shelf = shelf_with(alloc, b"10 PRINT 5\n")?;
+    let (status, _, line) = run_words(alloc, crunch, &mut shelf)?;
+    assert_eq!(rt; status, Status::Done);
+    assert!(rt; line.is_empty());
+    assert_eq!(rt;
+        shelf.take(alloc, "g", 100)?.as_slice(),
+        b"\x0d\x00\x0a\x08 \xf1 5\x0d\xff".as_slice()
+    );
+    let bad = b"bad text at line 2\n";
+    assert!(rt; says(alloc, crunch, b"\nPRINT 1", Status::BadText, bad)?);
+    let long = vec![in alloc; b' '; 1_048_577]?;
+    let limit = b"limit text at 1048577\n";
+    assert!(rt; says(alloc, crunch, long.as_slice(), Status::Limit, limit)?);
+    let missing = b"cannot read x\n";
+    assert!(rt;
+        says(
+            alloc,
+            &["crunch", "x", "g"],
+            b"",
+            Status::ReadFault,
+            missing
+        )?
+    );
     Ok(())
 }
 
