@@ -108,7 +108,7 @@ module _ (words input : List ℕ) (bound : ℕ) (out_before out_after : SeenSink
   words_run endings.Usage ran calm = absurd ran
   words_run (endings.Refused reason) ran calm = inr (ap refusal_status ran.0)
   words_run (endings.ReadFault name) ran calm = absurd ran
-  words_run endings.WriteFault ran calm = absurd (calm ran.1)
+  words_run endings.WriteFault ran calm = absurd (calm ran.2)
   words_run (endings.NotImage at) ran calm = absurd ran
   words_run (endings.BadText piece) ran calm = absurd ran
   words_run (endings.Ran end under) ran calm = inl (ap end_status ran.0, ran.2)

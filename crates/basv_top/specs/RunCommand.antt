@@ -10,6 +10,7 @@ use Rattle.bv_run.specs.Outcome.{Outcome, Over, Going, Broken, output_of}
 use Rattle.arm2_machine.specs.Image as images
 use Rattle.arm2_machine.specs.Image.{ImageOf, IsTooLong}
 use Rattle.arm2_machine.specs.Step.{board_run}
+use Rattle.arm2_machine.specs.Writes.{byte_writes, FailsAtByte}
 use Rattle.bas_compile.specs.declared.refusal.Refusal.TheVariants as refusals
 use Rattle.basv_top.specs.declared.status.Status.{Status}
 use Rattle.basv_top.specs.declared.status.Status.TheVariants as statuses
@@ -27,9 +28,11 @@ end_of (Over out arena report) = ends.Over report
 end_of (Going out arena) = ends.Going
 end_of (Broken out arena kind address) = ends.Broken kind address
 
--- the output of a run of these words on this input, under a bound, was written
+-- the output of a run of these words on this input, under a bound, was written, each byte by a write of its own
 abbrev pub WritesRun : List ℕ → List ℕ → ℕ → SeenSink → SeenSink → Type 0
-WritesRun words input bound before after = after.written ≡ with_bytes before.written (output_of (board_run words input bound))
+WritesRun words input bound before after =
+    (after.written ≡ with_bytes before.written (output_of (board_run words input bound)))
+    × (after.log ≡ byte_writes (output_of (board_run words input bound)) before.log)
 
 -- the run's output was written, and the status is that of its end
 abbrev pub HasRun : List ℕ → List ℕ → ℕ → SeenSink → SeenSink → Status → Type 0
@@ -43,11 +46,12 @@ Unrunnable bytes (NotImage at) = (length bytes ≤ image_bytes) × images.NotIma
 Unrunnable bytes ending = ⊥
 
 -- Why a run of these words ends so, and what the output got: before it began, nothing; where the output failed, a first
--- part of what the run writes.
+-- part of what the run writes, byte by byte.
 abbrev pub WordsEndRun : List ℕ → List ℕ → ℕ → SeenSink → SeenSink → Ending → Type 0
 WordsEndRun words input bound before after (Refused reason) = (reason ≡ refusals.NoMemory) × Silent before after
 WordsEndRun words input bound before after WriteFault =
-    WritesPart before.written (output_of (board_run words input bound)) after.written × Rose before.faults after.faults
+    WritesPart before.written (output_of (board_run words input bound)) after.written
+    × FailsAtByte (output_of (board_run words input bound)) before.log after.log × Rose before.faults after.faults
 WordsEndRun words input bound before after (Ran end under) =
     (end ≡ end_of (board_run words input bound)) × (under ≡ bound) × WritesRun words input bound before after
 WordsEndRun words input bound before after ending = ⊥
