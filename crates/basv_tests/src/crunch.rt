@@ -1,5 +1,7 @@
 //! Texts and their files, by hand from the rules of tokenising.
 
+ghost use Rattle.std.specs.Prelude.{◌<◌, ◌^◌};
+
 use basv_crunch::{CrunchError, crunch};
 use lister::list_lines;
 use std::alloc::{AllocError, Global};
