@@ -6,7 +6,6 @@ ghost use Rattle.std.specs.Prelude.{◌<◌, ◌^◌, length};
 use arm2_machine::{Board, ImageError, read_image, write_image};
 use bas_compile::{Refusal, compile};
 use basv_top::{Status, basv, basv_in_memory};
-use bv_base::FILE_BYTES;
 use bv_io::{MemShelf, MemSink, Shelf, Sink, SinkFault, SureShelf, TakeError};
 use bv_run::{Report, RunEnd};
 use sqlite_items::Items;
@@ -236,7 +235,7 @@ fn refusals_say_why(rt: HostRuntime) -> Result<(), Fail> {
     let alloc = rt.alloc();
     let cut_off = b"\x0d\x00\x0a\x05A\x0d\x00\x14\x07\xf1";
     let malformed = b"malformed file at byte 5\n";
-    let long = vec![in alloc; 0; FILE_BYTES as usize + 1]?;
+    let long = vec![in alloc; 0; 65_537]?;
     let long = long.as_slice();
     let limit = b"limit file at 65537\n";
     let compile = &["compile", "f", "i"];

@@ -6,7 +6,6 @@ use bas_lex::sign_numbers::{
     SHIFT_RIGHT, SHIFT_RIGHT_LOGICAL,
 };
 use bas_lex::{LexError, NO_SUFFIX, Sym, SymKind, symbols};
-use bv_base::LONGEST_TEXT;
 use bv_token::REM;
 use std::alloc::Global;
 use std::test::Fail;
@@ -14,7 +13,7 @@ use std::test::Fail;
 /// Whether the text, which begins with the assembler off or on, has these symbols and no others, and the assembler is
 /// off or on behind it.
 fn cuts(alloc: Global, text: &[u8], asm: bool, want: &[Sym], asm_after: bool) -> bool {
-    if text.len() > LONGEST_TEXT {
+    if text.len() > 251 {
         return false;
     }
     match symbols(alloc, text, asm) {
@@ -25,7 +24,7 @@ fn cuts(alloc: Global, text: &[u8], asm: bool, want: &[Sym], asm_after: bool) ->
 
 /// Whether the text is bad at this place.
 fn is_bad(alloc: Global, text: &[u8], asm: bool, place: u8) -> bool {
-    if text.len() > LONGEST_TEXT {
+    if text.len() > 251 {
         return false;
     }
     match symbols(alloc, text, asm) {
@@ -114,11 +113,11 @@ fn the_assembler(rt: HostRuntime) -> Result<(), Fail> {
 /// A line of as many symbols as a line can have: one more than its bytes.
 #[test]
 fn the_longest_list(rt: HostRuntime) -> Result<(), Fail> {
-    let mut text = [b':'; LONGEST_TEXT];
-    text[LONGEST_TEXT - 1] = REM;
+    let mut text = [b':'; 251];
+    text[250] = REM;
     match symbols(rt.alloc(), &text, false) {
         Ok(run) => {
-            assert_eq!(rt; run.list.len(), LONGEST_TEXT + 1);
+            assert_eq!(rt; run.list.len(), 252);
             let last = run.list.as_slice().last();
             assert!(rt; last == Some(&off(SymKind::Tail, 251, 251)));
         }
