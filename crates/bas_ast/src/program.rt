@@ -4,7 +4,7 @@ use crate::lines::Item;
 use sqlite_items::Items;
 
 /// What a name names.
-#[derive(Debug, Clone, Copy, PartialEq, Eq, Drop)]
+#[derive(Debug, Clone, Copy, PartialEq, Eq, Hash, Drop)]
 pub enum NameKind {
     Integer,
     Text,
