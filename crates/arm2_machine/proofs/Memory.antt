@@ -1,4 +1,4 @@
--- The memory of a loaded image: its words stand where they were put, and the arena is all zero.
+-- The memory of a loaded image: its words are where they were put, and the arena is all zero.
 use Rattle.std.proofs.Common.{◌≡◌, ℕ, ◌+◌, ◌-◌, ◌*◌, ◌/◌, ◌%◌, ◌^◌, ◌<◌, ◌≤◌, List, [], ◌∷◌, ◌++◌, length, take, drop, flat_map, slice_index, Some, None, true, false, ◌&&◌, nat_le, nat_lt, le-leb, lt-ltb, add-zero, if◌then◌else◌, refl, sym, ap, subst, ◌∙◌, arith, append_assoc, length-append}
 use Rattle.std.proofs.lemmas.Grind.{common_steps}
 use Rattle.bv_base.specs.Limits.{image_words}
@@ -67,7 +67,7 @@ pub arena_of-loaded_ram : (words : List ℕ) → arena_of (loaded_ram words) ≡
 unfolding loaded_ram arena_of
 arena_of-loaded_ram words = middle arena_start arena_bytes (image_start - arena_end) _
 
--- the words stand from an address on
+-- the words lie from an address on
 abbrev pub HasAt : List ℕ → ℕ → List ℕ → Type 0
 HasAt ram a [] = Unit {0}
 HasAt ram a (w ∷ ws) = (fetched ram a ≡ Some w) × HasAt ram (a + 4) ws
@@ -104,7 +104,7 @@ fetched_at front back a w is inside small =
     ∙ (λ i. first i + slice_index-append front (word_bytes w ++ back) a 1 is i * 256 + slice_index-append front (word_bytes w ++ back) a 2 is i * 65536 + slice_index-append front (word_bytes w ++ back) a 3 is i * 16777216)
     ∙ omega (arith, word_from_bytes w small))
 
--- words stand where their bytes were put
+-- words are where their bytes were put
 has_at : (words front back : List ℕ) (a : ℕ) → length front ≡ a → a + 4 * length words ≤ ram_end → AreWords words → HasAt (front ++ (flat_map word_bytes words ++ back)) a words
 has_at [] front back a is inside small = tt
 has_at (w ∷ ws) front back a is inside small = (
@@ -114,7 +114,7 @@ has_at (w ∷ ws) front back a is inside small = (
       (has_at ws (front ++ word_bytes w) back (a + 4) (length-append front (word_bytes w) ∙ omega (arith, is)) (omega (arith, inside)) small.1),
 )
 
--- the words of a loaded image stand in its memory
+-- the words of a loaded image are in its memory
 pub loaded_has : (words : List ℕ) → length words ≤ image_words → AreWords words → HasAt (loaded_ram words) image_start words
 unfolding loaded_ram
 loaded_has words short small = has_at words (zeros image_start) _ image_start (length-zeros image_start) (omega (arith, short)) small

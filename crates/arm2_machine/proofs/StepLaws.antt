@@ -22,7 +22,7 @@ use Rattle.arm2_machine.specs.Machine.{Machine, board_space, fetched, entered, w
 use Rattle.arm2_machine.specs.Swi.{swi_write, swi_end, called}
 use Rattle.arm2_machine.specs.Step.{instructed, board_step}
 
--- supervisor mode makes the processor's instruction
+-- supervisor mode executes the processor's instruction
 supervised : (m : Machine) (s : Stepped) → m.regs.svc ≡ true → cpu_step board_space m.regs m.ram ≡ s → board_step m ≡ instructed m s
 unfolding board_step
 supervised m s svc is = (λ i. if not (svc i) && m.regs.pc == pad then Goes (record m { regs = entered m.regs return_entry }) [] else instructed m (is i))

@@ -44,7 +44,7 @@ pub record IsWhole (bytes : List ℕ) (count : ℕ) : Type 0 where
   pub fits : count ≤ image_words
   pub ends : length bytes ≡ 8 + 4 * count
 
--- when each error comes: want of memory is free
+-- when each error comes: running out of memory is free
 abbrev pub ExplainsImage : List ℕ → ImageError → Type 0
 ExplainsImage bytes (errors.NotImage at) = NotImage bytes at
 ExplainsImage bytes errors.TooLong = IsTooLong bytes

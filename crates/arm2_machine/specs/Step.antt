@@ -33,7 +33,7 @@ instructed m s = after_event (with_step m s) m.regs.pc s.event
 abbrev pub is_at_pad : Regs → Bool
 is_at_pad r = not r.svc && r.pc == pad
 
--- One step of the board: user mode at the pad goes back to the supervisor; else one instruction is made.
+-- One step of the board: user mode at the pad goes back to the supervisor; else one instruction is executed.
 unfoldable pub board_step : Machine → Turn Machine End
 board_step m =
     if is_at_pad m.regs then Goes (record m { regs = entered m.regs return_entry }) []

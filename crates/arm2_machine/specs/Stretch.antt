@@ -5,7 +5,7 @@ use Rattle.arm2_machine.specs.declared.step.Stretch.{Stretch}
 use Rattle.arm2_machine.specs.Machine.{Machine}
 use Rattle.arm2_machine.specs.Step.{after_event, board_step}
 
--- The steps before the last were made, and wrote nothing. The last, within the bound, comes to what its event comes to.
+-- The steps before the last were taken, and wrote nothing. The last, within the bound, comes to what its event comes to.
 pub record MakesStretch (most : ℕ) (old : Machine) (stretch : Stretch) (new : Machine) : Type 0 where
   pub last : Machine
   pub stands : run board_step stretch.before old [] ≡ Going last []

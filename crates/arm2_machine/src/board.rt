@@ -16,7 +16,7 @@ use bv_run::RunEnd;
 use std::alloc::Global;
 use std::marker::Model;
 
-/// The board: a machine. It counts the instructions that it has made, up to the greatest `u64`, and is closed once its
+/// The board: a machine. It counts the instructions that it has executed, up to the greatest `u64`, and is closed once its
 /// run has come to an end.
 #[derive(Drop)]
 pub struct Board {
@@ -83,7 +83,7 @@ impl Board {
         self.closed
     }
 
-    /// The number of instructions that the board has made, which stays at the greatest `u64`.
+    /// The number of instructions that the board has executed, which stays at the greatest `u64`.
     pub fn steps(&self) -> u64
         ensures { result ≡ self.now.steps }
     {

@@ -22,7 +22,7 @@ pub enum ImageError {
     /// The file says that it has more than `IMAGE_WORDS` words.
     #[error("TooLong")]
     TooLong,
-    /// There was no memory for the words.
+    /// Memory ran out for the words.
     #[error("NoMemory")]
     NoMemory,
 }

@@ -5,7 +5,7 @@ ghost use Rattle.arm2_machine.specs.Machine.{Machine};
 ghost use Rattle.arm2_machine.specs.Step.{board_step};
 
 /// The law of a run in several calls: under two bounds one after the other, a board does what it does under their sum,
-/// and makes as many instructions.
+/// and executes as many instructions.
 pub fn calls_add_up(first: u64, second: u64)
     ensures goes_on { (old middle : Machine) (out : List ℕ) → run board_step first old [] ≡ Going middle out
         → run board_step (first + second) old [] ≡ with_front out (run board_step second middle []) }

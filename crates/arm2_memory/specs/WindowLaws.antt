@@ -1,4 +1,4 @@
--- A window is a lawful memory. These lemmas stand beside the definition since the law of an implementation can cite nothing
+-- A window is a lawful memory. These lemmas are beside the definition since the law of an implementation can cite nothing
 -- of its own crate's proofs.
 use Rattle.std.proofs.Common.{◌≡◌, ℕ, ◌+◌, ◌%◌, ◌<◌, ◌≤◌, Bool, true, false, arith}
 use Rattle.std.proofs.lemmas.Bool.Decides.{nat_tests}

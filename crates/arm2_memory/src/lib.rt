@@ -1,4 +1,4 @@
-//! Memories for the processor: a window of addresses with RAM behind it. A further memory goes into a file of its own.
+//! Memories for the processor: a window of addresses that RAM backs. A further memory goes into a file of its own.
 #![tactic(auto)]
 
 mod place;

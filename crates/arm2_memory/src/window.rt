@@ -1,4 +1,4 @@
-//! A window of addresses with RAM behind it.
+//! A window of addresses that RAM backs.
 ghost use Rattle.std.specs.Prelude.{◌≡◌, ◌+◌, ◌-◌, ◌≤◌, length, slice_range, IfOk};
 ghost use Rattle.bv_base.specs.Bytes.{zeros};
 ghost use Rattle.bv_base.specs.Words.{put_at};

@@ -1,4 +1,4 @@
--- Words and instructions stand for one another.
+-- Words and instructions correspond one to one.
 use Rattle.std.proofs.Common.{◌≡◌, ℕ, ◌^◌, ◌<◌, refl, sym, ap, subst, ◌∙◌, arith}
 use Rattle.arm_isa.specs.declared.classes.Class.{Class}
 use Rattle.arm_isa.specs.declared.instruction.Instr.{Instr}

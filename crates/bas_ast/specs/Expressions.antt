@@ -2,7 +2,7 @@
 -- expressions, restricted to integers and strings).
 --
 -- Each kind of expression is a family, and each production a constructor. The families of numbers and strings have a
--- level, the least at which operators stand outside brackets in them, so that a list of a higher level is also one of a
+-- level, the least at which operators are found outside brackets in them, so that a list of a higher level is also one of a
 -- lower:
 --
 --     1  OR, EOR     2  AND     3  comparisons and shifts     4  sums, and strings that are joined     5  products

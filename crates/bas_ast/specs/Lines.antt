@@ -20,13 +20,13 @@ use Rattle.bas_ast.specs.Expressions.{IsNum, IsAny}
 use Rattle.bas_ast.specs.Operands.{IsFormals, IsList, AnExpression, ALine}
 use Rattle.bas_ast.specs.Statements.{IsStmt}
 
--- What stands before a place of a line.
+-- What comes before a place of a line.
 pub record Here : Type 0 where
   -- whether an item may begin here: after `:`, at the line's start, and where the item before lets it
   pub free : Bool
-  -- whether an IF without THEN stands before the next item
+  -- whether an IF without THEN comes before the next item
   pub bare : Bool
-  -- whether an IF, or an ON with a number, stands before on the line
+  -- whether an IF, or an ON with a number, comes before on the line
   pub ruled : Bool
 
 -- the start of a line
@@ -96,7 +96,7 @@ mutual
     remark : (h : Here) (n : ℕ) → h.free ≡ true → IsItems h (t.Keyword word.Rem ∷ t.Tail n ∷ []) (item.Remark ∷ [])
     begin_assembly : (h : Here) → h.free ≡ true → IsItems h (t.OpenSquare ∷ []) (item.BeginAssembly ∷ [])
 
-  -- What stands after THEN and ELSE: items, or a line's number, which is a GOTO.
+  -- What follows THEN and ELSE: items, or a line's number, which is a GOTO.
   pub data IsBranch : List Terminal → List Item → Type 0 where
     branch_items : (r : List Terminal) (xs : List Item) → IsItems after_then r xs → IsBranch r xs
     branch_line : (n : ℕ) (r : List Terminal) (xs : List Item) → IsItems after_on r xs
@@ -114,8 +114,8 @@ pub data IsRoutineOpen : Terminal → (List Formal → Head) → Type 0 where
   def_number_open : (n : ℕ) → IsRoutineOpen (t.NumFunctionOpen n) (head.DefFunction n)
   def_text_open : (n : ℕ) → IsRoutineOpen (t.StrFunctionOpen n) (head.DefFunction n)
 
--- A run of a line outside the assembler: from the line's start or from a `]`, to its end or to a `[`. Behind a `]` an ELSE may
--- come, since what rules it may stand before the `[`.
+-- A run of a line outside the assembler: from the line's start or from a `]`, to its end or to a `[`. After a `]` an ELSE may
+-- come, since what rules it may come before the `[`.
 pub data IsRun : List Terminal → List Item → Type 0 where
   items : (r : List Terminal) (xs : List Item) → IsItems start r xs → IsRun r xs
   def : (c : Terminal) (f : List Formal → Head) (r : List Terminal) (xs : List Item) → IsRoutine c f → IsItems start r xs

@@ -35,7 +35,7 @@ use Rattle.bas_ast.specs.Operands.{IsNumTarget, IsStrTarget, IsTarget, Slot, ANu
 abbrev pub equals : Terminal
 equals = t.Operator (op.Compare comparison.Equal)
 
--- What stands after a statement's word: fixed operands, one operand or more of one kind, or something of its own.
+-- What follows a statement's word: fixed operands, one operand or more of one kind, or something of its own.
 pub data Form : Type 0 where
   Takes : (ss : List Slot) → (Values ss → Stmt) → Form
   Lists : (s : Slot) → (List (ValueOf s) → Stmt) → Form
@@ -70,7 +70,7 @@ joins (t.Operator op.Subtract ∷ r) = true
 joins (t.Indirection w ∷ r) = true
 joins _ = false
 
--- The parts of PRINT, where an expression stands directly before or not. One that does isn't followed by an expression that
+-- The parts of PRINT, where an expression comes directly before or not. One that does isn't followed by an expression that
 -- begins as `joins` says.
 pub data IsPrint : Bool → List Terminal → List PrintPart → Type 0 where
   printed : (b : Bool) → IsPrint b [] []
@@ -104,12 +104,12 @@ pub data IsSeparator : Terminal → Type 0 where
   by_comma : IsSeparator t.Comma
   by_semicolon : IsSeparator t.Semicolon
 
--- a target, where a prompt stands directly before or not
+-- a target, where a prompt comes directly before or not
 abbrev pub input_target : Bool → Target → InputPart
 input_target true v = input_part.Prompted v
 input_target false v = input_part.Asked v
 
--- The parts of INPUT, where a prompt stands directly before or not.
+-- The parts of INPUT, where a prompt comes directly before or not.
 pub data IsInput : Bool → List Terminal → List InputPart → Type 0 where
   last_prompt : (b : Bool) (n : ℕ) → IsInput b (t.Literal n ∷ []) (input_part.Prompt n ∷ [])
   prompt_apart : (b : Bool) (n : ℕ) (c : Terminal) (r : List Terminal) (ps : List InputPart) → IsSeparator c → IsInput false r ps

@@ -44,7 +44,7 @@ if_family = record { opens = (λ b. elim b [ OpensIf ↦ true | _ ↦ false ]); 
 abbrev pub case_family : Family
 case_family = record { opens = (λ b. elim b [ OpensCase ↦ true | _ ↦ false ]); closes = (λ b. elim b [ ClosesCase ↦ true | _ ↦ false ]) }
 
--- Whether an end stands later, at depth 0, where structures of the family are counted between.
+-- Whether an end comes later, at depth 0, where structures of the family are counted between.
 abbrev pub ends_at : Family → (Bound → Bool) → ℕ → List Item → Bool
 ends_at family is_end depth [] = false
 ends_at family is_end depth (x ∷ xs) =

@@ -1,4 +1,4 @@
--- What a terminal is at the front of an expression, and how tightly operators bind. A word that stands before one operand
+-- What a terminal is at the front of an expression, and how tightly operators bind. A word that comes before one operand
 -- is a line of `role`.
 use Rattle.std.specs.Prelude.{ℕ, []}
 use Rattle.bas_ast.specs.declared.expressions.BinaryOp.{BinaryOp}

@@ -96,7 +96,7 @@ pub enum Operand {
 #[derive(Drop)]
 pub enum Offset {
     Constant(NumExpr),
-    /// Whether a minus stands before it, the register, and its shift.
+    /// Whether a minus comes before it, the register, and its shift.
     Register(bool, Register, Option<(ShiftOp, NumExpr)>),
 }
 
@@ -105,7 +105,7 @@ pub enum Offset {
 pub enum Address {
     /// `[Rn]`
     Base(Register),
-    /// `[Rn,offset]`, with writeback where `!` stands after it.
+    /// `[Rn,offset]`, with writeback where `!` follows it.
     PreIndexed(Register, Offset, bool),
     /// `[Rn],offset`
     PostIndexed(Register, Offset),

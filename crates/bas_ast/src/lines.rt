@@ -39,7 +39,7 @@ pub enum Item {
     EndAssembly,
 }
 
-/// What begins a line and stands nowhere else.
+/// What begins a line and is found nowhere else.
 #[derive(Drop)]
 pub enum Head {
     DefProcedure(u16, Items<Formal>),

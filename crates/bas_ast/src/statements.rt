@@ -100,7 +100,7 @@ pub enum PrintPart {
     Tab(NumExpr),
 }
 
-/// A number of VDU: one byte, or two where `;` stands after it.
+/// A number of VDU: one byte, or two where `;` follows it.
 #[derive(Drop)]
 pub enum VduPart {
     Byte(NumExpr),
@@ -120,7 +120,7 @@ pub enum InputPart {
 /// A part of DIM.
 #[derive(Drop)]
 pub enum DimPart {
-    /// A variable that gets the address of so many bytes and one.
+    /// A variable that gets the address of a block of one byte more than this number.
     Bytes(u16, NumExpr),
     /// An array of numbers, with its bounds.
     Numbers(u16, Items<NumExpr>),

@@ -36,7 +36,7 @@ pub enum Terminal {
     LineRef(u16),
     /// The bytes after REM or DATA.
     Tail(u32),
-    /// An operator between two operands. `=` is also that of assignments, and `+` and `-` may stand before one operand.
+    /// An operator between two operands. `=` is also that of assignments, and `+` and `-` may come before one operand.
     Operator(BinaryOp),
     /// `?` or `!`.
     Indirection(Width),

@@ -41,13 +41,13 @@ pub length-code_of : (p : List ProgramLine) → length (code_of p) ≡ 2 * lengt
 unfolding code_of
 length-code_of p = length-append (flat_map line_code p) end_code ∙ omega (arith, length-lines p)
 
--- behind a line's code stands that of the lines behind it
-behind_line : (ram : List ℕ) (l : ProgramLine) (ls : List ProgramLine) (a : ℕ) → HasAt ram a (flat_map line_code (l ∷ ls) ++ end_code) → HasAt ram (a + 8) (flat_map line_code ls ++ end_code)
-behind_line ram l ls a h =
+-- a line's code is followed by that of the lines after it
+after_line : (ram : List ℕ) (l : ProgramLine) (ls : List ProgramLine) (a : ℕ) → HasAt ram a (flat_map line_code (l ∷ ls) ++ end_code) → HasAt ram (a + 8) (flat_map line_code ls ++ end_code)
+after_line ram l ls a h =
     subst (λ n. HasAt ram n (flat_map line_code ls ++ end_code)) (let e : a + 4 * length (line_code l) ≡ a + 8 = omega (arith, length-item_code l.item) in e)
     (has_back ram a (line_code l) _ (subst (HasAt ram a) (append_assoc (line_code l) _ end_code) h))
 
--- a line's code stands eight bytes behind that of the line before it
+-- a line's code is eight bytes after that of the line before it
 code_at_line : (ram : List ℕ) (p : List ProgramLine) (place a : ℕ) (line : ProgramLine) → slice_get p place ≡ Some line → HasAt ram a (flat_map line_code p ++ end_code) → HasAt ram (a + 8 * place) (line_code line)
 code_at_line ram [] place a line is h = absurd (let e : None ≡ Some line = is in cc)
 code_at_line ram (l ∷ ls) zero a line is h =
@@ -57,16 +57,16 @@ code_at_line ram (l ∷ ls) zero a line is h =
     (has_front ram a (line_code l) _ (subst (HasAt ram a) (append_assoc (line_code l) _ end_code) h)))
 code_at_line ram (l ∷ ls) (suc place) a line is h =
     subst (λ n. HasAt ram n (line_code line)) (let e : a + 8 + 8 * place ≡ a + 8 * suc place = omega arith in e)
-    (code_at_line ram ls place (a + 8) line is (behind_line ram l ls a h))
+    (code_at_line ram ls place (a + 8) line is (after_line ram l ls a h))
 
--- the end's code stands behind that of the last line
+-- the end's code follows that of the last line
 end_at_line : (ram : List ℕ) (p : List ProgramLine) (place a : ℕ) → slice_get p place ≡ None → place ≤ length p → HasAt ram a (flat_map line_code p ++ end_code) → HasAt ram (a + 8 * place) end_code
 end_at_line ram [] place a is within h =
     subst (λ n. HasAt ram n end_code) (let e : a ≡ a + 8 * place = omega (arith, within) in e) h
 end_at_line ram (l ∷ ls) zero a is within h = absurd (let e : Some l ≡ None = is in cc)
 end_at_line ram (l ∷ ls) (suc place) a is within h =
     subst (λ n. HasAt ram n end_code) (let e : a + 8 + 8 * place ≡ a + 8 * suc place = omega arith in e)
-    (end_at_line ram ls place (a + 8) is (omega (arith, within)) (behind_line ram l ls a h))
+    (end_at_line ram ls place (a + 8) is (omega (arith, within)) (after_line ram l ls a h))
 
 pub at_line : (ram : List ℕ) (p : List ProgramLine) (place a : ℕ) (line : ProgramLine) → slice_get p place ≡ Some line → HasAt ram a (code_of p) → HasAt ram (a + 8 * place) (line_code line)
 unfolding code_of

@@ -30,7 +30,7 @@ execute-suc : (p : List ProgramLine) (n place : ℕ) (s : State) → execute p (
 unfolding execute
 execute-suc p n place s = refl
 
--- the board is about to carry out the line at a place
+-- the board is about to execute the line at a place
 record Stands (p : List ProgramLine) (place : ℕ) (m : Machine) (s : State) : Type 0 where
   ram : m.ram ≡ loaded_ram (code_of p)
   pc : m.regs.pc ≡ image_start + 8 * place
@@ -51,9 +51,9 @@ go_on n (Spent s) m t bytes out l f = (l.steps + f.0, f.1, omega (arith, l.some,
 next_pc : (a b : ℕ) → a ≡ b → b + 4 < 2 ^ 26 → (a + 4) % 2 ^ 26 ≡ b + 4
 next_pc a b is small = ap (λ n. (n + 4) % 2 ^ 26) is ∙ mod-eq_of_lt small
 
--- the board behind an instruction that does no more, and behind MOV R0, #n
-abbrev behind : Machine → Machine
-behind m = record m { regs = at_next m.regs }
+-- the board after an instruction that does no more, and after MOV R0, #n
+abbrev advanced : Machine → Machine
+advanced m = record m { regs = at_next m.regs }
 
 abbrev moved : Machine → ℕ → Machine
 moved m n = record m { regs = at_next (with_low m.regs 0 n) }
@@ -71,29 +71,29 @@ ends n m a s at small svc registers arena h =
     let first = leads_move m 0 (omega arith) svc (ap (fetched m.ram) at ∙ h.0) in
     let last = step_done (moved m 0) (r0-moved m 0 registers) svc (ap (fetched m.ram) (next_pc m.regs.pc a at small) ∙ h.1.0) in (
       first.steps + 1,
-      behind (moved m 0),
-      leads_run board_step m (moved m 0) [] first 1 s.out ∙ run_stops board_step _ _ _ _ (s.out ++ []) last ∙ ap (λ o. Ended (behind (moved m 0)) o (Over Done)) (append-nil (s.out ++ []) ∙ append-nil s.out),
+      advanced (moved m 0),
+      leads_run board_step m (moved m 0) [] first 1 s.out ∙ run_stops board_step _ _ _ _ (s.out ++ []) last ∙ ap (λ o. Ended (advanced (moved m 0)) o (Over Done)) (append-nil (s.out ++ []) ∙ append-nil s.out),
       arena,
     )
 
 -- the code of VDU writes the byte and leads on
-leads_vdu : (m : Machine) (a n : ℕ) → m.regs.pc ≡ a → a + 4 < 2 ^ 26 → m.regs.svc ≡ true → length m.regs.low ≡ 13 → n ≤ 255 → HasAt m.ram a (item_code (Vdu n)) → Leads board_step m (behind (moved m n)) (n ∷ [])
+leads_vdu : (m : Machine) (a n : ℕ) → m.regs.pc ≡ a → a + 4 < 2 ^ 26 → m.regs.svc ≡ true → length m.regs.low ≡ 13 → n ≤ 255 → HasAt m.ram a (item_code (Vdu n)) → Leads board_step m (advanced (moved m n)) (n ∷ [])
 leads_vdu m a n at small svc registers byte h =
     let first = leads_move m n (omega (arith, byte)) svc (ap (fetched m.ram) at ∙ h.0) in
     let write = step_write (moved m n) svc (ap (fetched m.ram) (next_pc m.regs.pc a at small) ∙ h.1.0) in
     let value : slice_index (moved m n).regs.low 0 % 256 ≡ n = ap (λ v. v % 256) (r0-moved m n registers) ∙ mod-eq_of_lt (let e : n < 256 = omega (arith, byte) in e) in
-    leads-leads board_step m (moved m n) _ [] (n ∷ []) first (leads_step board_step _ _ (n ∷ []) (write ∙ ap (λ b. Goes (behind (moved m n)) (b ∷ [])) value))
+    leads-leads board_step m (moved m n) _ [] (n ∷ []) first (leads_step board_step _ _ (n ∷ []) (write ∙ ap (λ b. Goes (advanced (moved m n)) (b ∷ [])) value))
 
 -- a place of the program lies within the addresses of instructions
 within_image : (p : List ProgramLine) (place : ℕ) → length (code_of p) ≤ image_words → place ≤ length p → image_start + 8 * place + 8 < 2 ^ 26
 within_image p place short within = omega (arith, short, within, length-code_of p)
 
--- the code of the program stands in the board's memory
+-- the code of the program is in the board's memory
 code_stands : (p : List ProgramLine) (place : ℕ) (m : Machine) (s : State) → AreSmall p → length (code_of p) ≤ image_words → Stands p place m s → HasAt m.ram image_start (code_of p)
 code_stands p place m s small short stands = subst (λ r. HasAt r image_start (code_of p)) (sym stands.ram) (loaded_has (code_of p) short (are_words p small))
 
--- behind the code of VDU the board stands at the next line
-stands_next : (p : List ProgramLine) (place n : ℕ) (m : Machine) (s : State) → length (code_of p) ≤ image_words → place < length p → Stands p place m s → Stands p (place + 1) (behind (moved m n)) (record s { out = s.out ++ n ∷ [] })
+-- after the code of VDU the board is at the next line
+stands_next : (p : List ProgramLine) (place n : ℕ) (m : Machine) (s : State) → length (code_of p) ≤ image_words → place < length p → Stands p place m s → Stands p (place + 1) (advanced (moved m n)) (record s { out = s.out ++ n ∷ [] })
 stands_next p place n m s short within stands =
     let fits = within_image p place short (omega (arith, within)) in
     record {
@@ -104,7 +104,7 @@ stands_next p place n m s short within stands =
       arena = stands.arena;
     }
 
--- what an item does and what comes behind it, followed from the item's code
+-- what an item does and what comes after it, followed from the item's code
 follows_item : (p : List ProgramLine) (n place : ℕ) (line : ProgramLine) (m : Machine) (s : State) → AreSmall p → length (code_of p) ≤ image_words → slice_get p place ≡ Some line → Stands p place m s
     → ((t : Machine) (s' : State) → Stands p (place + 1) t s' → FollowsCourse n (execute p n (place + 1) s') t s'.out)
     → (item : Item) → line.item ≡ item → FollowsCourse (suc n) (carried item (execute p n (place + 1)) s) m s.out
@@ -120,7 +120,7 @@ follows_item p n place line m s small short is stands next End item_is =
     let fits = within_image p place short (omega (arith, within)) in
     ends (suc n) m _ s stands.pc (omega (arith, fits)) stands.svc stands.registers stands.arena code
 
--- behind the last line the run ends
+-- after the last line the run ends
 follows_end : (p : List ProgramLine) (n place : ℕ) (m : Machine) (s : State) → AreSmall p → length (code_of p) ≤ image_words → slice_get p place ≡ None → place ≤ length p → Stands p place m s → FollowsCourse n (Finished s Done) m s.out
 follows_end p n place m s small short is within stands =
     let fits = within_image p place short within in
@@ -141,7 +141,7 @@ follows p small short (suc n) place m s within stands =
     by_line next None is = follows_end p (suc n) place m s small short is within stands
     by_line next (Some line) is = follows_item p n place line m s small short is stands (λ t s' st. next t s' (omega (arith, slice_get_within p place line is)) st) line.item refl
 
--- the board stands at the first line at its start
+-- the board is at the first line at its start
 stands_first : (p : List ProgramLine) (input : List ℕ) → Stands p 0 (loaded (code_of p) input) (start input)
 stands_first p input = record { ram = refl; pc = refl; svc = refl; registers = refl; arena = arena_of-loaded_ram (code_of p) }
 

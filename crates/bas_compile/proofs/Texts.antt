@@ -9,7 +9,7 @@ use Rattle.bas_compile.specs.declared.item.Item.TheVariants.{Vdu, End}
 use Rattle.bas_compile.specs.Grammar.{IsDigit, value_of, spaces, Parses}
 use Rattle.bas_compile.specs.Parsing.{without_spaces, NoDigitFirst, NoSpaceFirst, IsLastNumber, IsFront}
 
--- the digits read so far stand in front of the rest, and this is their value, or 256 where it is greater
+-- the digits read so far come before the rest, and this is their value, or 256 where it is greater
 pub record ReadsDigits (text rest : List ℕ) (value : ℕ) : Type 0 where
   pub digits : List ℕ
   pub split : text ≡ digits ++ rest
@@ -162,7 +162,7 @@ item_of text End f =
       spelled = before.1 ∙ ap (λ l. spaces before.0 ++ l) (f.1 ∙ (λ i. END ∷ after.1 i) ∙ (λ i. END ∷ (spaces after.0 ++ f.2 i)) ∙ (λ i. END ∷ append-nil (spaces after.0) i));
     }
 
--- where no number ends a text behind VDU, it is no item
+-- where no number ends a text after VDU, it is no item
 pub no_vdu : (after : List ℕ) → ((n : ℕ) → IsLastNumber (without_spaces after) n → ⊥) → (item : Item) → IsFront (VDU ∷ after) item → ⊥
 no_vdu after none (Vdu n) f = none n (let P : List ℕ → Type 0 = λ l. IsLastNumber (without_spaces l) n in subst P (sym (same_tail _ _ _ _ f.1)) f.2)
 no_vdu after none End f = absurd (let e : VDU ≡ END = same_head _ _ _ _ f.1 in omega arith)

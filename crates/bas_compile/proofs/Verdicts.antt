@@ -104,9 +104,9 @@ decide_item text =
       | inr none ↦ inr (λ item p. none item (front_of text item p))
     ]
 
-behind_item : (line : Line) (item : Item) (lines : List Line) → Parses line.text item → ((p : List ProgramLine) × ParsesAll lines p) ⊎ ((n : ℕ) × FirstOutside lines n) → ((p : List ProgramLine) × ParsesAll (line ∷ lines) p) ⊎ ((n : ℕ) × FirstOutside (line ∷ lines) n)
-behind_item line item lines is (inl p) = inl (record { number = line.number; item = item } ∷ p.0, (refl, is, p.1))
-behind_item line item lines is (inr (n, f)) = inr (
+after_item : (line : Line) (item : Item) (lines : List Line) → Parses line.text item → ((p : List ProgramLine) × ParsesAll lines p) ⊎ ((n : ℕ) × FirstOutside lines n) → ((p : List ProgramLine) × ParsesAll (line ∷ lines) p) ⊎ ((n : ℕ) × FirstOutside (line ∷ lines) n)
+after_item line item lines is (inl p) = inl (record { number = line.number; item = item } ∷ p.0, (refl, is, p.1))
+after_item line item lines is (inr (n, f)) = inr (
   n,
   record {
     before = line ∷ f.before;
@@ -124,7 +124,7 @@ decide_lines : (lines : List Line) → ((p : List ProgramLine) × ParsesAll line
 decide_lines [] = inl ([], tt)
 decide_lines (line ∷ lines) =
     elim (decide_item line.text) [
-      | inl found ↦ behind_item line found.0 lines found.1 (decide_lines lines)
+      | inl found ↦ after_item line found.0 lines found.1 (decide_lines lines)
       | inr none ↦ inr (line.number, record { before = []; items = []; line = line; after = lines; split = refl; parsed = tt; outside = none; is_number = refl })
     ]
 

@@ -18,6 +18,6 @@ item_code End = end_code
 abbrev pub line_code : ProgramLine → List ℕ
 line_code line = item_code line.item
 
--- the words of a program: those of its lines in order, and behind them the end
+-- the words of a program: those of its lines in order, and after them the end
 unfoldable pub code_of : List ProgramLine → List ℕ
 code_of program = flat_map line_code program ++ end_code

@@ -11,7 +11,7 @@ use Rattle.bv_token.specs.declared.tokens.TheConstants.{END, VDU}
 use Rattle.bas_compile.specs.declared.parse.TheConstants.{SPACE}
 use Rattle.bv_base.specs.Limits.{file_bytes}
 
--- so many spaces
+-- a number of spaces
 abbrev pub spaces : ℕ → List ℕ
 spaces n = replicate n SPACE
 

@@ -25,12 +25,12 @@ pub data Course : Type 0 where
   Finished : (state : State) (report : Report) → Course
   Spent : (state : State) → Course
 
--- what an item does, and what comes behind it
+-- what an item does, and what comes after it
 abbrev pub carried : Item → (State → Course) → State → Course
 carried (Vdu n) next s = next (record s { out = s.out ++ n ∷ [] })
 carried End next s = Finished s Done
 
--- with no step left: the end behind the last line takes none
+-- with no step left: the end after the last line takes none
 abbrev pub at_rest : Option ProgramLine → State → Course
 at_rest None s = Finished s Done
 at_rest (Some line) s = Spent s

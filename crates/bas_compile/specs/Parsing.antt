@@ -11,12 +11,12 @@ abbrev pub without_spaces : List ℕ → List ℕ
 without_spaces [] = []
 without_spaces (c ∷ cs) = if nat_eq c SPACE then without_spaces cs else c ∷ cs
 
--- no digit stands at the front
+-- no digit is at the front
 abbrev pub NoDigitFirst : List ℕ → Type 0
 NoDigitFirst [] = Unit {0}
 NoDigitFirst (c ∷ cs) = IsDigit c → ⊥
 
--- no space stands at the front
+-- no space is at the front
 abbrev pub NoSpaceFirst : List ℕ → Type 0
 NoSpaceFirst [] = Unit {0}
 NoSpaceFirst (c ∷ cs) = c ≡ SPACE → ⊥

@@ -29,7 +29,7 @@ HasReason bytes (refusals.Limit limits.Image count) = ⊥
 HasReason bytes (refusals.Limit limits.Text count) = ⊥
 HasReason bytes refusals.NoMemory = ⊥
 
--- the file has the reason, or there was no memory
+-- the file has the reason, or memory ran out
 abbrev pub GivesReason : List ℕ → Refusal → Type 0
 GivesReason bytes refusals.NoMemory = Unit {0}
 GivesReason bytes refusal = HasReason bytes refusal

@@ -44,16 +44,16 @@ abbrev pub FirstOf : List Cause → List ℕ → Refusal → Type 0
 FirstOf [] bytes reason = ⊥
 FirstOf (cause ∷ later) bytes reason = Holds cause bytes reason ⊎ (((other : Refusal) → Holds cause bytes other → ⊥) × FirstOf later bytes reason)
 
--- A file is refused for the first cause that holds. Want of memory is no cause of the file's own.
+-- A file is refused for the first cause that holds. Running out of memory is no cause of the file's own.
 abbrev pub Refused : List ℕ → Refusal → Type 0
 Refused bytes reason = FirstOf causes bytes reason
 
--- what a refusal by the compiler says: the file is refused so, or there was no memory
+-- what a refusal by the compiler says: the file is refused so, or memory ran out
 abbrev pub Explained : List ℕ → Refusal → Type 0
 Explained bytes refusals.NoMemory = Unit {0}
 Explained bytes refusal = Refused bytes refusal
 
--- what a refusal by the parser says of the lines: one of them is the first that is no item, or there was no memory
+-- what a refusal by the parser says of the lines: one of them is the first that is no item, or memory ran out
 abbrev pub ExplainsLines : List Line → Refusal → Type 0
 ExplainsLines lines (refusals.Malformed at) = ⊥
 ExplainsLines lines (refusals.Outside line) = FirstOutside lines line

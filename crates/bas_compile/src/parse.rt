@@ -13,7 +13,7 @@ use token_file::Line;
 /// A space.
 pub const SPACE: u8 = b' ';
 
-/// The text behind a space at the front.
+/// The text after a space at the front.
 fn strip_space(text: &[u8]) -> Option<&[u8]>
     ensures { MatchOption result (NoSpaceFirst text.now) (λ after. text.now ≡ SPACE ∷ after.now) }
 {
@@ -39,7 +39,7 @@ fn is_blank(text: &[u8]) -> bool
     skip_spaces(text).is_empty()
 }
 
-/// The value of a digit at the front, and the text behind it.
+/// The value of a digit at the front, and the text after it.
 fn strip_digit(text: &[u8]) -> Option<(u16, &[u8])>
     ensures { MatchOption result (NoDigitFirst text.now)
         (λ front. (front.0 < 10) × (text.now ≡ (front.0 + 48) ∷ front.1.now)) }
@@ -50,7 +50,7 @@ fn strip_digit(text: &[u8]) -> Option<(u16, &[u8])>
     }
 }
 
-/// The value of a number of at most 255 that has nothing but spaces behind it.
+/// The value of a number of at most 255 that has nothing but spaces after it.
 fn read_last_number(text: &[u8]) -> Option<u8>
     ensures { MatchOption result ((n : ℕ) → IsLastNumber text.now n → ⊥) (IsLastNumber text.now) }
 {
@@ -66,7 +66,7 @@ fn read_last_number(text: &[u8]) -> Option<u8>
     None
 }
 
-/// The item that begins with this token, and has this text behind it.
+/// The item that begins with this token, and has this text after it.
 fn parse_token(token: u8, after: &[u8]) -> Option<Item>
     ensures { MatchOption result ((item : Tree) → IsFront (token ∷ after.now) item → ⊥)
         (IsFront (token ∷ after.now)) }

@@ -5,21 +5,21 @@ use Rattle.bas_lex.specs.declared.symbol.LexError.{LexError}
 use Rattle.bas_lex.specs.declared.symbol.LexError.TheVariants as errors
 use Rattle.bas_lex.specs.declared.symbol.Mode.{Mode}
 use Rattle.bas_lex.specs.declared.symbol.Sym.{Sym}
-use Rattle.bas_lex.specs.Cut.{Piece, bytes_of, Fits, behind, at_line, Cuts, piece_symbols, symbols_of, Symbols, Bad, Explains, NoPiece}
+use Rattle.bas_lex.specs.Cut.{Piece, bytes_of, Fits, mode_after, at_line, Cuts, piece_symbols, symbols_of, Symbols, Bad, Explains, NoPiece}
 use Rattle.bas_lex.specs.Next.{TakesPiece, ExplainsPiece}
 use Rattle.bas_lex.proofs.Pieces.{piece_shortens}
 
 -- one piece more
-cuts_more : (mode last : Mode) (text rest next : List ℕ) (pieces : List Piece) (piece : Piece) → Cuts mode text pieces last rest → Fits last.asm piece rest next → Cuts mode text (pieces ++ piece ∷ []) (behind last piece) next
+cuts_more : (mode last : Mode) (text rest next : List ℕ) (pieces : List Piece) (piece : Piece) → Cuts mode text pieces last rest → Fits last.asm piece rest next → Cuts mode text (pieces ++ piece ∷ []) (mode_after last piece) next
 cuts_more mode last text rest next [] piece cut fits =
-    (next, subst (λ (m : Mode). Fits m.asm piece text next) cut.0 (subst (λ t. Fits last.asm piece t next) cut.1 fits), (ap (λ (m : Mode). behind m piece) cut.0, refl))
-cuts_more mode last text rest next (p ∷ pieces) piece cut fits = (cut.0, cut.1, cuts_more (behind mode p) last cut.0 rest next pieces piece cut.2 fits)
+    (next, subst (λ (m : Mode). Fits m.asm piece text next) cut.0 (subst (λ t. Fits last.asm piece t next) cut.1 fits), (ap (λ (m : Mode). mode_after m piece) cut.0, refl))
+cuts_more mode last text rest next (p ∷ pieces) piece cut fits = (cut.0, cut.1, cuts_more (mode_after mode p) last cut.0 rest next pieces piece cut.2 fits)
 
 pub cuts_within : (mode last : Mode) (text rest : List ℕ) (pieces : List Piece) → Cuts mode text pieces last rest → length rest ≤ length text
 cuts_within mode last text rest [] cut = omega (arith, ap length cut.1)
 cuts_within mode last text rest (p ∷ pieces) cut =
     let shorter = piece_shortens mode.asm p text cut.0 cut.1 in
-    let within = cuts_within (behind mode p) last cut.0 rest pieces cut.2 in
+    let within = cuts_within (mode_after mode p) last cut.0 rest pieces cut.2 in
     omega (arith, shorter, within)
 
 symbols_more : (from at : ℕ) (mode last : Mode) (text rest : List ℕ) (pieces : List Piece) (piece : Piece) → Cuts mode text pieces last rest → from + length text ≡ at + length rest → symbols_of from mode (pieces ++ piece ∷ []) ≡ symbols_of from mode pieces ++ piece_symbols at last piece
@@ -27,8 +27,8 @@ symbols_more from at mode last text rest [] piece cut place =
     let same : from ≡ at = omega (arith, place, ap length cut.1) in
     append-nil (piece_symbols from mode piece) ∙ (λ i. piece_symbols (same i) (sym cut.0 i) piece)
 symbols_more from at mode last text rest (p ∷ pieces) piece cut place =
-    let others = symbols_more (from + length (bytes_of p)) at (behind mode p) last cut.0 rest pieces piece cut.2 (omega (arith, place, ap length cut.1.0, length-append (bytes_of p) cut.0)) in
-    ap (λ l. piece_symbols from mode p ++ l) others ∙ sym (append_assoc (piece_symbols from mode p) (symbols_of (from + length (bytes_of p)) (behind mode p) pieces) (piece_symbols at last piece))
+    let others = symbols_more (from + length (bytes_of p)) at (mode_after mode p) last cut.0 rest pieces piece cut.2 (omega (arith, place, ap length cut.1.0, length-append (bytes_of p) cut.0)) in
+    ap (λ l. piece_symbols from mode p ++ l) others ∙ sym (append_assoc (piece_symbols from mode p) (symbols_of (from + length (bytes_of p)) (mode_after mode p) pieces) (piece_symbols at last piece))
 
 -- what was cut so far
 pub record IsCutSoFar (asm : Bool) (text : List ℕ) (mode : Mode) (rest : List ℕ) (list : List Sym) : Type 0 where

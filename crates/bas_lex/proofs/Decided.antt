@@ -20,7 +20,7 @@ use Rattle.bas_lex.specs.declared.symbol.SymKind.TheVariants as kinds
 use Rattle.bv_token.specs.Names.{begins_name, is_in_name}
 use Rattle.bas_lex.specs.Bytes.{ampersand, at_sign, digit_0, digit_9, dollar_sign, open_bracket, percent_sign, point, quotation_mark, space}
 use Rattle.bas_lex.specs.Kinds.{IsSymbol, suffix_bytes, bracket_bytes, call_token, radix_mark, value_bound, base, signs}
-use Rattle.bas_lex.specs.Cut.{Longest, Piece, Space, Comment, Tailed, begins_comment, AtComment, Fits, behind, behind_symbol, symbol_at, at_line, Cuts, symbols_of, Symbols, Bad, NoPiece}
+use Rattle.bas_lex.specs.Cut.{Longest, Piece, Space, Comment, Tailed, begins_comment, AtComment, Fits, mode_after, mode_after_symbol, symbol_at, at_line, Cuts, symbols_of, Symbols, Bad, NoPiece}
 use Rattle.bas_lex.specs.Scan.{Best, SystemNames, Calls, Labels, Numbers, Texts, LineRefs, Tokens, Signs, SignsOf, IsRun, is_suffix, SplitsSuffix, SplitsBracket, SplitsPercent, EndsName, EndsLabel, NoLabelName, HasDigits, ClosesLast, longer_sign}
 use Rattle.bv_base.proofs.Lists.{same_head, same_tail}
 use Rattle.bas_lex.proofs.Names.{name_best, call_best, no_call_best, system_best, no_system_name, label_plain, label_system, no_label_name, label_best, no_label, no_label_off}
@@ -73,14 +73,14 @@ name_end text =
     let bracket = bracket_of suffix.1 in
     ends letters.0 suffix.0 suffix.1 bracket.0 bracket.1 letters.1 suffix.2 bracket.2
   where
-    ends : (behind_letters : List ℕ) (suffix : ℕ) (behind_suffix : List ℕ) (bracket : Bool) (rest : List ℕ) → IsRun is_in_name text behind_letters → SplitsSuffix behind_letters suffix behind_suffix → SplitsBracket behind_suffix bracket rest → (end : NameEnd) × EndsName text end
-    ends behind_letters suffix behind_suffix bracket rest l s b = (
+    ends : (after_letters : List ℕ) (suffix : ℕ) (after_suffix : List ℕ) (bracket : Bool) (rest : List ℕ) → IsRun is_in_name text after_letters → SplitsSuffix after_letters suffix after_suffix → SplitsBracket after_suffix bracket rest → (end : NameEnd) × EndsName text end
+    ends after_letters suffix after_suffix bracket rest l s b = (
       record { suffix = suffix; bracket = bracket; size = length text - length rest },
-      record { behind_letters = behind_letters; behind_suffix = behind_suffix; rest = rest; letters = l; suffix = s; bracket = b; size = omega (arith, within) },
+      record { after_letters = after_letters; after_suffix = after_suffix; rest = rest; letters = l; suffix = s; bracket = b; size = omega (arith, within) },
     )
       where
         within : length rest ≤ length text
-        within = omega (arith, ap length l.split, length-append l.run behind_letters, ap length s.split, length-append (suffix_bytes suffix) behind_suffix, ap length b.split, length-append (bracket_bytes bracket) rest)
+        within = omega (arith, ap length l.split, length-append l.run after_letters, ap length s.split, length-append (suffix_bytes suffix) after_suffix, ap length b.split, length-append (bracket_bytes bracket) rest)
 
 call_of : (function : Bool) (after : List ℕ) → Answer (Calls function) (call_token function ∷ after)
 call_of function [] = (Some (record { kind = kinds.Token (call_token function); size = 1 }), no_call_best function [] tt)
@@ -255,7 +255,7 @@ Piecewise asm text = ((piece : Piece) × (rest : List ℕ) × Fits asm piece tex
 symbol_fits : (asm : Bool) (text : List ℕ) (front : Front) → (AtComment asm text → ⊥) → Longest (IsSymbol asm) text front.kind front.size → Piecewise asm text
 symbol_fits asm text front absent longest =
     let mode : Mode = record { asm = asm; start = false } in
-    let taken = takes_symbol 0 text mode (behind_symbol mode front.kind) [] (symbol_at 0 mode front.kind front.size ∷ []) front (drop front.size text) (symbol_at 0 mode front.kind front.size) absent longest refl refl refl refl in
+    let taken = takes_symbol 0 text mode (mode_after_symbol mode front.kind) [] (symbol_at 0 mode front.kind front.size ∷ []) front (drop front.size text) (symbol_at 0 mode front.kind front.size) absent longest refl refl refl refl in
     inl (taken.piece, drop front.size text, taken.fits)
 
 rem_fits : (asm : Bool) (first : ℕ) (after : List ℕ) → begins_comment asm first ≡ false → first ≡ REM → Piecewise asm (first ∷ after)
@@ -294,7 +294,7 @@ record Farthest (mode : Mode) (text : List ℕ) : Type 0 where
 on_piece : (mode : Mode) (text : List ℕ) → ((mode' : Mode) (rest : List ℕ) → length rest < length text → Farthest mode' rest) → Piecewise mode.asm text → Farthest mode text
 on_piece mode text next (inr stuck) = record { pieces = []; last = mode; rest = text; cut = (refl, refl); stuck = stuck }
 on_piece mode text next (inl (piece, rest, fits)) =
-    let far = next (behind mode piece) rest (piece_shortens mode.asm piece text rest fits) in
+    let far = next (mode_after mode piece) rest (piece_shortens mode.asm piece text rest fits) in
     record { pieces = piece ∷ far.pieces; last = far.last; rest = far.rest; cut = (rest, fits, far.cut); stuck = far.stuck }
 
 farthest : (n : ℕ) (mode : Mode) (text : List ℕ) → length text ≤ n → Farthest mode text

@@ -1,4 +1,4 @@
--- The longest name, by what stands behind its first byte.
+-- The longest name, by what follows its first byte.
 use Rattle.std.proofs.Common.{◌≡◌, ◌≢◌, ◌⊎◌, inl, inr, ℕ, ◌+◌, ◌-◌, ◌≤◌, Bool, true, false, List, [], ◌∷◌, ◌++◌, length, refl, sym, ap, subst, ◌∙◌, arith, append_assoc, length-append, true≢false}
 use Rattle.bas_lex.specs.declared.name.NameEnd.{NameEnd}
 use Rattle.bas_lex.specs.declared.symbol.SymKind.{SymKind}
@@ -49,20 +49,20 @@ suffix_fits text rest suffix other more splits is e = cases is splits.is_suffix_
         let both : dollar_sign ∷ more ≡ percent_sign ∷ rest = sym (e ∙ ap (λ n. suffix_bytes n ++ more) p) ∙ (splits.split ∙ ap (λ n. suffix_bytes n ++ rest) q) in
         absurd (let heads = same_head _ _ _ _ both in omega (arith, heads))
 
--- a suffix and a bracket, where both are taken that stand there
-both_fit : (text behind_suffix rest : List ℕ) (suffix other : ℕ) (bracket with : Bool) (rest' : List ℕ) → SplitsSuffix text suffix behind_suffix → SplitsBracket behind_suffix bracket rest → IsSuffix other → text ≡ (suffix_bytes other ++ bracket_bytes with) ++ rest' → length (suffix_bytes other ++ bracket_bytes with) + length rest ≤ length text
-both_fit text behind_suffix rest suffix other bracket with rest' s b is e =
-    elim (suffix_fits text behind_suffix suffix other (bracket_bytes with ++ rest') s is whole) [
+-- a suffix and a bracket, where both are taken that are there
+both_fit : (text after_suffix rest : List ℕ) (suffix other : ℕ) (bracket with : Bool) (rest' : List ℕ) → SplitsSuffix text suffix after_suffix → SplitsBracket after_suffix bracket rest → IsSuffix other → text ≡ (suffix_bytes other ++ bracket_bytes with) ++ rest' → length (suffix_bytes other ++ bracket_bytes with) + length rest ≤ length text
+both_fit text after_suffix rest suffix other bracket with rest' s b is e =
+    elim (suffix_fits text after_suffix suffix other (bracket_bytes with ++ rest') s is whole) [
       | inl same ↦
-          let fits = bracket_fits behind_suffix rest rest' bracket with b (sym same.1) in
-          omega (arith, fits, length-append (suffix_bytes other) (bracket_bytes with), ap length s.split, length-append (suffix_bytes suffix) behind_suffix, ap (λ n. length (suffix_bytes n)) same.0)
+          let fits = bracket_fits after_suffix rest rest' bracket with b (sym same.1) in
+          omega (arith, fits, length-append (suffix_bytes other) (bracket_bytes with), ap length s.split, length-append (suffix_bytes suffix) after_suffix, ap (λ n. length (suffix_bytes n)) same.0)
       | inr none ↦ no_bracket with whole none
     ]
   where
     whole : text ≡ suffix_bytes other ++ (bracket_bytes with ++ rest')
     whole = e ∙ append_assoc (suffix_bytes other) (bracket_bytes with) rest'
 
-    no_bracket : (w : Bool) → text ≡ suffix_bytes other ++ (bracket_bytes w ++ rest') → (suffix_bytes other ≡ []) × (NotFirst is_bracket text × (length behind_suffix ≤ length text)) → length (suffix_bytes other ++ bracket_bytes w) + length rest ≤ length text
+    no_bracket : (w : Bool) → text ≡ suffix_bytes other ++ (bracket_bytes w ++ rest') → (suffix_bytes other ≡ []) × (NotFirst is_bracket text × (length after_suffix ≤ length text)) → length (suffix_bytes other ++ bracket_bytes w) + length rest ≤ length text
     no_bracket true e none = absurd (not_first is_bracket text rest' open_bracket (e ∙ ap (λ l. l ++ open_bracket ∷ rest') none.0) refl none.1.0)
     no_bracket false e none = omega (arith, none.1.1, ap length none.0, length-append (suffix_bytes other) [], ap length b.split, length-append (bracket_bytes bracket) rest)
 
@@ -76,23 +76,23 @@ no_letter_first suffix bracket rest (inr (inr p)) = inl (subst (λ n. NotFirst i
 pub end_is_longest : (text : List ℕ) (end : NameEnd) (suffix : ℕ) (bracket : Bool) (bytes rest : List ℕ) → EndsName text end → GoesOn suffix bracket bytes → text ≡ bytes ++ rest → length bytes ≤ end.size
 end_is_longest text end suffix bracket bytes rest ends goes e = by_more covered.0 covered.1 covered.2
   where
-    covered : (more : List ℕ) × (ends.letters.run ≡ goes.letters ++ more) × ((suffix_bytes suffix ++ bracket_bytes bracket) ++ rest ≡ more ++ ends.behind_letters)
-    covered = covers is_in_name ends.letters.run goes.letters ends.behind_letters _ goes.each ends.letters.stops (sym ends.letters.split ∙ e ∙ ap (λ l. l ++ rest) goes.spelled ∙ append_assoc goes.letters _ rest)
+    covered : (more : List ℕ) × (ends.letters.run ≡ goes.letters ++ more) × ((suffix_bytes suffix ++ bracket_bytes bracket) ++ rest ≡ more ++ ends.after_letters)
+    covered = covers is_in_name ends.letters.run goes.letters ends.after_letters _ goes.each ends.letters.stops (sym ends.letters.split ∙ e ∙ ap (λ l. l ++ rest) goes.spelled ∙ append_assoc goes.letters _ rest)
 
-    sizes : length text ≡ length ends.letters.run + length ends.behind_letters
-    sizes = ap length ends.letters.split ∙ length-append ends.letters.run ends.behind_letters
+    sizes : length text ≡ length ends.letters.run + length ends.after_letters
+    sizes = ap length ends.letters.split ∙ length-append ends.letters.run ends.after_letters
 
     size_of_bytes : length bytes ≡ length goes.letters + length (suffix_bytes suffix ++ bracket_bytes bracket)
     size_of_bytes = ap length goes.spelled ∙ length-append goes.letters _
 
-    by_more : (more : List ℕ) → ends.letters.run ≡ goes.letters ++ more → (suffix_bytes suffix ++ bracket_bytes bracket) ++ rest ≡ more ++ ends.behind_letters → length bytes ≤ end.size
-    by_more [] run behind =
-        let fits = both_fit ends.behind_letters ends.behind_suffix ends.rest end.suffix suffix end.bracket bracket rest ends.suffix ends.bracket goes.is_suffix (sym behind) in
+    by_more : (more : List ℕ) → ends.letters.run ≡ goes.letters ++ more → (suffix_bytes suffix ++ bracket_bytes bracket) ++ rest ≡ more ++ ends.after_letters → length bytes ≤ end.size
+    by_more [] run mode_after =
+        let fits = both_fit ends.after_letters ends.after_suffix ends.rest end.suffix suffix end.bracket bracket rest ends.suffix ends.bracket goes.is_suffix (sym mode_after) in
         omega (arith, fits, sizes, size_of_bytes, ends.size, ap length run, length-append goes.letters [])
-    by_more (m ∷ more) run behind =
+    by_more (m ∷ more) run mode_after =
         elim (no_letter_first suffix bracket rest goes.is_suffix) [
-          | inl stops ↦ absurd (not_first is_in_name _ _ m behind (each_back is_in_name goes.letters (m ∷ more) (subst (Each is_in_name) run ends.letters.each)).0 stops)
-          | inr none ↦ omega (arith, ap length none, sizes, size_of_bytes, ends.size, ap length run, length-append goes.letters (m ∷ more), ap length ends.suffix.split, length-append (suffix_bytes end.suffix) ends.behind_suffix, ap length ends.bracket.split, length-append (bracket_bytes end.bracket) ends.rest)
+          | inl stops ↦ absurd (not_first is_in_name _ _ m mode_after (each_back is_in_name goes.letters (m ∷ more) (subst (Each is_in_name) run ends.letters.each)).0 stops)
+          | inr none ↦ omega (arith, ap length none, sizes, size_of_bytes, ends.size, ap length run, length-append goes.letters (m ∷ more), ap length ends.suffix.split, length-append (suffix_bytes end.suffix) ends.after_suffix, ap length ends.bracket.split, length-append (bracket_bytes end.bracket) ends.rest)
         ]
 
 -- what goes on with a name, as far as it goes
@@ -157,7 +157,7 @@ unfolding keyword_of_token
 call_is_keyword true = record { spelled = refl; keyword = refl; not_rem = λ e. omega (arith, e); not_data = λ e. omega (arith, e) }
 call_is_keyword false = record { spelled = refl; keyword = refl; not_rem = λ e. omega (arith, e); not_data = λ e. omega (arith, e) }
 
--- without a name behind it the token stands alone
+-- without a name after it the token is alone
 pub no_call_best : (function : Bool) (after : List ℕ) → NotFirst is_in_name after → Longest (Calls function) (call_token function ∷ after) (kinds.Token (call_token function)) 1
 no_call_best function after none = record {
   begins = record { bytes = call_token function ∷ []; rest = after; split = refl; size_is = refl; is = call_is_keyword function };
@@ -187,64 +187,64 @@ no_system_name after none (kinds.Name suffix bracket) n b =
 no_system_name after none kind n b = absurd b.is
 
 -- a label's name, by the suffix that it may have
-label_fits : (first : ℕ) (after behind rest : List ℕ) (run : IsRun is_in_name after behind) → SplitsPercent behind rest → (suffix : ℕ) (bytes rest' : List ℕ) → suffix ≢ dollar_sign → GoesOn suffix false bytes → after ≡ bytes ++ rest' → length bytes + length rest ≤ length after
-label_fits first after behind rest run percent suffix bytes rest' no_string goes e = by_more covered.0 covered.1 covered.2
+label_fits : (first : ℕ) (after mode_after rest : List ℕ) (run : IsRun is_in_name after mode_after) → SplitsPercent mode_after rest → (suffix : ℕ) (bytes rest' : List ℕ) → suffix ≢ dollar_sign → GoesOn suffix false bytes → after ≡ bytes ++ rest' → length bytes + length rest ≤ length after
+label_fits first after mode_after rest run percent suffix bytes rest' no_string goes e = by_more covered.0 covered.1 covered.2
   where
-    covered : (more : List ℕ) × (run.run ≡ goes.letters ++ more) × ((suffix_bytes suffix ++ []) ++ rest' ≡ more ++ behind)
-    covered = covers is_in_name run.run goes.letters behind _ goes.each run.stops (sym run.split ∙ e ∙ ap (λ l. l ++ rest') goes.spelled ∙ append_assoc goes.letters _ rest')
+    covered : (more : List ℕ) × (run.run ≡ goes.letters ++ more) × ((suffix_bytes suffix ++ []) ++ rest' ≡ more ++ mode_after)
+    covered = covers is_in_name run.run goes.letters mode_after _ goes.each run.stops (sym run.split ∙ e ∙ ap (λ l. l ++ rest') goes.spelled ∙ append_assoc goes.letters _ rest')
 
-    sizes : length after ≡ length run.run + length behind
-    sizes = ap length run.split ∙ length-append run.run behind
+    sizes : length after ≡ length run.run + length mode_after
+    sizes = ap length run.split ∙ length-append run.run mode_after
 
     size_of_bytes : length bytes ≡ length goes.letters + length (suffix_bytes suffix ++ [])
     size_of_bytes = ap length goes.spelled ∙ length-append goes.letters _
 
-    within : SplitsPercent behind rest → length rest ≤ length behind
+    within : SplitsPercent mode_after rest → length rest ≤ length mode_after
     within (inl p) = omega (arith, ap length p)
     within (inr n) = omega (arith, ap length n.0)
 
-    by_suffix : (more : List ℕ) → run.run ≡ goes.letters ++ more → (suffix_bytes suffix ++ []) ++ rest' ≡ more ++ behind → IsSuffix suffix → SplitsPercent behind rest → length bytes + length rest ≤ length after
+    by_suffix : (more : List ℕ) → run.run ≡ goes.letters ++ more → (suffix_bytes suffix ++ []) ++ rest' ≡ more ++ mode_after → IsSuffix suffix → SplitsPercent mode_after rest → length bytes + length rest ≤ length after
     by_suffix more covers_run back (inl z) p =
         omega (arith, within p, sizes, size_of_bytes, ap (λ n. length (suffix_bytes n ++ [])) z, ap length covers_run, length-append goes.letters more)
     by_suffix more covers_run back (inr (inr p)) q = absurd (no_string p)
     by_suffix [] covers_run back (inr (inl p)) (inl taken) =
         omega (arith, ap length taken, sizes, size_of_bytes, ap (λ n. length (suffix_bytes n ++ [])) p, ap length covers_run, length-append goes.letters [])
     by_suffix [] covers_run back (inr (inl p)) (inr none) =
-        absurd (not_first is_percent behind rest' percent_sign (sym back ∙ ap (λ n. (suffix_bytes n ++ []) ++ rest') p) refl none.1)
+        absurd (not_first is_percent mode_after rest' percent_sign (sym back ∙ ap (λ n. (suffix_bytes n ++ []) ++ rest') p) refl none.1)
     by_suffix (m ∷ more) covers_run back (inr (inl p)) q =
         let m_is : percent_sign ≡ m = same_head _ _ _ _ (sym (ap (λ n. (suffix_bytes n ++ []) ++ rest') p) ∙ back) in
         let passes : is_in_name m ≡ true = (each_back is_in_name goes.letters (m ∷ more) (subst (Each is_in_name) covers_run run.each)).0 in
         absurd (true≢false (sym passes ∙ sym (ap is_in_name m_is)))
 
-    by_more : (more : List ℕ) → run.run ≡ goes.letters ++ more → (suffix_bytes suffix ++ []) ++ rest' ≡ more ++ behind → length bytes + length rest ≤ length after
+    by_more : (more : List ℕ) → run.run ≡ goes.letters ++ more → (suffix_bytes suffix ++ []) ++ rest' ≡ more ++ mode_after → length bytes + length rest ≤ length after
     by_more more covers_run back = by_suffix more covers_run back goes.is_suffix percent
 
 is_not_system : (first : ℕ) → begins_name first ≡ true → first ≡ at_sign → ⊥
 is_not_system first begins e = true≢false (sym begins ∙ ap begins_name e)
 
-label_plain_longest : (first : ℕ) (after behind rest : List ℕ) → begins_name first ≡ true → IsRun is_in_name after behind → SplitsPercent behind rest → (other rest' : List ℕ) (s : ℕ) → s ≢ dollar_sign → IsName s false other → first ∷ after ≡ other ++ rest' → length other + length rest ≤ 1 + length after
-label_plain_longest first after behind rest begins run percent other rest' s no_string (inl plain) e =
-    let fits = label_fits first after behind rest run percent s plain.more rest' no_string plain.goes_on (same_tail _ _ _ _ (e ∙ ap (λ l. l ++ rest') plain.spelled)) in
+label_plain_longest : (first : ℕ) (after mode_after rest : List ℕ) → begins_name first ≡ true → IsRun is_in_name after mode_after → SplitsPercent mode_after rest → (other rest' : List ℕ) (s : ℕ) → s ≢ dollar_sign → IsName s false other → first ∷ after ≡ other ++ rest' → length other + length rest ≤ 1 + length after
+label_plain_longest first after mode_after rest begins run percent other rest' s no_string (inl plain) e =
+    let fits = label_fits first after mode_after rest run percent s plain.more rest' no_string plain.goes_on (same_tail _ _ _ _ (e ∙ ap (λ l. l ++ rest') plain.spelled)) in
     omega (arith, fits, ap length plain.spelled)
-label_plain_longest first after behind rest begins run percent other rest' s no_string (inr system) e =
+label_plain_longest first after mode_after rest begins run percent other rest' s no_string (inr system) e =
     absurd (is_not_system first begins (same_head _ _ _ _ (e ∙ ap (λ l. l ++ rest') system.2)))
 
 -- the longest label's name that begins with a letter
-pub label_plain : (text : List ℕ) (first : ℕ) (after behind rest : List ℕ) → text ≡ first ∷ after → begins_name first ≡ true → IsRun is_in_name after behind → SplitsPercent behind rest → EndsLabel text rest
-label_plain text first after behind rest text_is begins run percent = by_percent percent
+pub label_plain : (text : List ℕ) (first : ℕ) (after mode_after rest : List ℕ) → text ≡ first ∷ after → begins_name first ≡ true → IsRun is_in_name after mode_after → SplitsPercent mode_after rest → EndsLabel text rest
+label_plain text first after mode_after rest text_is begins run percent = by_percent percent
   where
     longest : (name : List ℕ) → length name + length rest ≡ 1 + length after → (other rest' : List ℕ) (s : ℕ) → s ≢ dollar_sign → IsName s false other → text ≡ other ++ rest' → length other ≤ length name
     longest name size other rest' s no_string is e =
-        let most = label_plain_longest first after behind rest begins run percent other rest' s no_string is (sym text_is ∙ e) in omega (arith, most, size)
+        let most = label_plain_longest first after mode_after rest begins run percent other rest' s no_string is (sym text_is ∙ e) in omega (arith, most, size)
 
-    by_percent : SplitsPercent behind rest → EndsLabel text rest
+    by_percent : SplitsPercent mode_after rest → EndsLabel text rest
     by_percent (inl taken) = record {
       name = first ∷ (run.run ++ percent_sign ∷ []);
       suffix = percent_sign;
       no_string = λ e. omega (arith, e);
       is_name = inl (record { first = first; more = run.run ++ percent_sign ∷ []; begins = begins; goes_on = record { letters = run.run; each = run.each; is_suffix = inr (inl refl); spelled = refl }; spelled = refl });
       split = text_is ∙ ap (λ l. first ∷ l) (run.split ∙ ap (λ l. run.run ++ l) taken ∙ sym (append_assoc run.run (percent_sign ∷ []) rest));
-      longest = longest (first ∷ (run.run ++ percent_sign ∷ [])) (omega (arith, ap length run.split, length-append run.run behind, length-append run.run (percent_sign ∷ []), ap length taken));
+      longest = longest (first ∷ (run.run ++ percent_sign ∷ [])) (omega (arith, ap length run.split, length-append run.run mode_after, length-append run.run (percent_sign ∷ []), ap length taken));
     }
     by_percent (inr none) = record {
       name = first ∷ (run.run ++ []);
@@ -252,7 +252,7 @@ label_plain text first after behind rest text_is begins run percent = by_percent
       no_string = λ e. omega (arith, e);
       is_name = inl (record { first = first; more = run.run ++ []; begins = begins; goes_on = record { letters = run.run; each = run.each; is_suffix = inl refl; spelled = refl }; spelled = refl });
       split = text_is ∙ ap (λ l. first ∷ l) (run.split ∙ ap (λ l. run.run ++ l) none.0 ∙ sym (append_assoc run.run [] rest));
-      longest = longest (first ∷ (run.run ++ [])) (omega (arith, ap length run.split, length-append run.run behind, length-append run.run [], ap length none.0));
+      longest = longest (first ∷ (run.run ++ [])) (omega (arith, ap length run.split, length-append run.run mode_after, length-append run.run [], ap length none.0));
     }
 
 -- the label's name `@%`

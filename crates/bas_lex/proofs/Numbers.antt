@@ -1,4 +1,4 @@
--- The longest number, by the digits that stand first.
+-- The longest number, by the digits that come first.
 use Rattle.std.proofs.Common.{◌≡◌, ◌≢◌, ℕ, ◌+◌, ◌^◌, ◌≤◌, ◌<◌, min, Bool, true, false, cond, take_while, List, [], ◌∷◌, ◌++◌, length, refl, sym, ap, subst, ◌∙◌, arith, append_assoc, length-append, ℤ}
 use Rattle.std.specs.Int.{w32, cast_signed, cast_unsigned}
 use Rattle.std.proofs.lemmas.Int.{of_z-to_z}
@@ -22,12 +22,12 @@ abbrev FrontRun : (ℕ → Bool) → List ℕ → Type 0
 FrontRun test text = (rest : List ℕ) × (run : IsRun test text rest) × (run.run ≡ take_while test text)
 
 one_more_front : (test : ℕ → Bool) (c : ℕ) (text : List ℕ) (t : Bool) → test c ≡ t → FrontRun test text → FrontRun test (c ∷ text)
-one_more_front test c text true is behind = (
-  behind.0,
-  record { run = c ∷ behind.1.run; each = (is, behind.1.each); split = ap (λ l. c ∷ l) behind.1.split; stops = behind.1.stops },
-  ap (λ l. c ∷ l) behind.2 ∙ sym (take_while-cons test c text ∙ ap (λ t. cond t (c ∷ take_while test text) []) is),
+one_more_front test c text true is mode_after = (
+  mode_after.0,
+  record { run = c ∷ mode_after.1.run; each = (is, mode_after.1.each); split = ap (λ l. c ∷ l) mode_after.1.split; stops = mode_after.1.stops },
+  ap (λ l. c ∷ l) mode_after.2 ∙ sym (take_while-cons test c text ∙ ap (λ t. cond t (c ∷ take_while test text) []) is),
 )
-one_more_front test c text false is behind = (
+one_more_front test c text false is mode_after = (
   c ∷ text,
   record { run = []; each = tt; split = refl; stops = is },
   sym (take_while-cons test c text ∙ ap (λ t. cond t (c ∷ take_while test text) []) is),

@@ -17,7 +17,7 @@ use Rattle.bv_base.proofs.Lists.{same_head, same_tail}
 use Rattle.bas_lex.proofs.Runs.{same_runs}
 use Rattle.bas_lex.proofs.Classes.{Class, OfName, OfSystemName, OfText, OfLabel, OfLineRef, OfToken, OfSign, OfCall, OfNumber, class_of, of_class, class_of_symbol, at_place}
 
--- the suffix and the bracket of what stands behind the letters
+-- the suffix and the bracket of what follows the letters
 abbrev suffix_in : List ℕ → ℕ
 suffix_in [] = 0
 suffix_in (c ∷ more) = if c == open_bracket then 0 else c

@@ -6,11 +6,11 @@ use Rattle.bas_lex.specs.declared.symbol.Sym.{Sym}
 use Rattle.bas_lex.specs.declared.symbol.SymKind.{SymKind}
 use Rattle.bas_lex.specs.declared.symbol.SymKind.TheVariants as kinds
 use Rattle.bas_lex.specs.Kinds.{IsSymbol}
-use Rattle.bas_lex.specs.Cut.{Piece, Space, Comment, Symbol, Tailed, bytes_of, IsPiece, behind, at_line, Cuts, piece_symbols, symbols_of, Symbols, AreInOrder, IsFilled, IsTailLast}
+use Rattle.bas_lex.specs.Cut.{Piece, Space, Comment, Symbol, Tailed, bytes_of, IsPiece, mode_after, at_line, Cuts, piece_symbols, symbols_of, Symbols, AreInOrder, IsFilled, IsTailLast}
 use Rattle.bas_lex.proofs.Runs.{all_joined}
 use Rattle.bas_lex.proofs.Pieces.{no_empty_symbol, no_piece_at_end, symbol_is}
 
--- the place behind the last of these symbols, which are in order from a place on
+-- the place after the last of these symbols, which are in order from a place on
 abbrev pub end_of : ℕ → List Sym → ℕ
 end_of from [] = from
 end_of from (symbol ∷ more) = end_of symbol.to more
@@ -101,7 +101,7 @@ count_drop from to list n order filled last =
 in_order : (from : ℕ) (mode last : Mode) (text rest : List ℕ) (pieces : List Piece) → Cuts mode text pieces last rest → AreInOrder from (symbols_of from mode pieces) (from + length text)
 in_order from mode last text rest [] cut = omega arith
 in_order from mode last text rest (p ∷ pieces) cut =
-    by_piece p (symbols_of (from + length (bytes_of p)) (behind mode p) pieces) (ap length cut.1.0 ∙ length-append (bytes_of p) cut.0) (in_order (from + length (bytes_of p)) (behind mode p) last cut.0 rest pieces cut.2)
+    by_piece p (symbols_of (from + length (bytes_of p)) (mode_after mode p) pieces) (ap length cut.1.0 ∙ length-append (bytes_of p) cut.0) (in_order (from + length (bytes_of p)) (mode_after mode p) last cut.0 rest pieces cut.2)
   where
     by_piece : (q : Piece) (list : List Sym) → length text ≡ length (bytes_of q) + length cut.0 → AreInOrder (from + length (bytes_of q)) list (from + length (bytes_of q) + length cut.0) → AreInOrder from (piece_symbols from mode q ++ list) (from + length text)
     by_piece q list size others = by_form q (subst (λ n. AreInOrder (from + length (bytes_of q)) list n) (omega (arith, size)) others)
@@ -131,18 +131,18 @@ piece_filled from mode (Tailed token tail) next is = ((λ _. omega arith), ((λ 
 all_filled : (from : ℕ) (mode last : Mode) (text rest : List ℕ) (pieces : List Piece) → Cuts mode text pieces last rest → AllByRecursion IsFilled (symbols_of from mode pieces)
 all_filled from mode last text rest [] cut = tt
 all_filled from mode last text rest (p ∷ pieces) cut =
-    all_joined IsFilled (piece_symbols from mode p) _ (piece_filled from mode p cut.0 cut.1.1) (all_filled (from + length (bytes_of p)) (behind mode p) last cut.0 rest pieces cut.2)
+    all_joined IsFilled (piece_symbols from mode p) _ (piece_filled from mode p cut.0 cut.1.1) (all_filled (from + length (bytes_of p)) (mode_after mode p) last cut.0 rest pieces cut.2)
 
 -- no symbol of a text but a Tail is empty
 pub symbols_filled : (asm asm_after : Bool) (text : List ℕ) (list : List Sym) → Symbols asm text list asm_after → AllByRecursion IsFilled list
 symbols_filled asm asm_after text list s = subst (AllByRecursion IsFilled) (sym s.listed) (all_filled 0 (at_line asm) s.last text [] s.pieces s.cut)
 
 -- no symbols are cut from the empty text
-nothing_behind : (from : ℕ) (mode last : Mode) (text rest : List ℕ) (pieces : List Piece) → text ≡ [] → Cuts mode text pieces last rest → symbols_of from mode pieces ≡ []
-nothing_behind from mode last text rest [] empty cut = refl
-nothing_behind from mode last text rest (p ∷ pieces) empty cut = absurd (no_piece_at_end mode.asm text empty p cut.0 cut.1)
+nothing_after : (from : ℕ) (mode last : Mode) (text rest : List ℕ) (pieces : List Piece) → text ≡ [] → Cuts mode text pieces last rest → symbols_of from mode pieces ≡ []
+nothing_after from mode last text rest [] empty cut = refl
+nothing_after from mode last text rest (p ∷ pieces) empty cut = absurd (no_piece_at_end mode.asm text empty p cut.0 cut.1)
 
--- the symbols of a piece in front of others, of which there are none behind a Tail
+-- the symbols of a piece in front of others, of which there are none after a Tail
 piece_last : (from : ℕ) (mode : Mode) (piece : Piece) (next : List ℕ) (others : List Sym) → IsPiece mode.asm piece next → (next ≡ [] → others ≡ []) → IsTailLast others → IsTailLast (piece_symbols from mode piece ++ others)
 piece_last from mode Space next others is none last = last
 piece_last from mode (Comment bytes) next others is none last = last
@@ -153,8 +153,8 @@ piece_last from mode (Tailed token tail) next others is none last = ((λ e. absu
 cut_last : (from : ℕ) (mode last : Mode) (text rest : List ℕ) (pieces : List Piece) → Cuts mode text pieces last rest → IsTailLast (symbols_of from mode pieces)
 cut_last from mode last text rest [] cut = tt
 cut_last from mode last text rest (p ∷ pieces) cut =
-    piece_last from mode p cut.0 _ cut.1.1 (λ empty. nothing_behind (from + length (bytes_of p)) (behind mode p) last cut.0 rest pieces empty cut.2)
-    (cut_last (from + length (bytes_of p)) (behind mode p) last cut.0 rest pieces cut.2)
+    piece_last from mode p cut.0 _ cut.1.1 (λ empty. nothing_after (from + length (bytes_of p)) (mode_after mode p) last cut.0 rest pieces empty cut.2)
+    (cut_last (from + length (bytes_of p)) (mode_after mode p) last cut.0 rest pieces cut.2)
 
 -- a Tail is the last symbol of a text
 pub tail_is_last : (asm asm_after : Bool) (text : List ℕ) (list : List Sym) → Symbols asm text list asm_after → IsTailLast list

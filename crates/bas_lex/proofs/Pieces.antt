@@ -9,7 +9,7 @@ use Rattle.bas_lex.specs.declared.symbol.Sym.{Sym}
 use Rattle.bas_lex.specs.declared.symbol.SymKind.{SymKind}
 use Rattle.bas_lex.specs.declared.symbol.SymKind.TheVariants as kinds
 use Rattle.bas_lex.specs.Kinds.{IsSymbol}
-use Rattle.bas_lex.specs.Cut.{Begins, Longest, Piece, Space, Comment, Symbol, Tailed, begins_comment, AtComment, Fits, behind_symbol, symbol_at, NoPiece}
+use Rattle.bas_lex.specs.Cut.{Begins, Longest, Piece, Space, Comment, Symbol, Tailed, begins_comment, AtComment, Fits, mode_after_symbol, symbol_at, NoPiece}
 use Rattle.bas_lex.specs.Scan.{Best}
 use Rattle.bas_lex.specs.Next.{TakesPiece}
 use Rattle.bv_base.proofs.Lists.{same_head, same_fronts}
@@ -86,7 +86,7 @@ longest_front asm text kind size l =
     let whole : text ≡ b.bytes ++ drop size text = b.split ∙ ap (λ r. b.bytes ++ r) (sym rest_is) in
     (whole, subst (λ n. Longest (IsSymbol asm) (b.bytes ++ drop size text) kind n) (sym b.size_is) (subst (λ t. Longest (IsSymbol asm) t kind size) whole l))
 
-pub takes_symbol : (at : ℕ) (text : List ℕ) (mode mode' : Mode) (list list' : List Sym) (front : Front) (rest : List ℕ) (a : Sym) → (AtComment mode.asm text → ⊥) → Longest (IsSymbol mode.asm) text front.kind front.size → rest ≡ drop front.size text → mode' ≡ behind_symbol mode front.kind → a ≡ symbol_at at mode front.kind front.size → list' ≡ list ++ a ∷ [] → TakesPiece at text mode list rest mode' list'
+pub takes_symbol : (at : ℕ) (text : List ℕ) (mode mode' : Mode) (list list' : List Sym) (front : Front) (rest : List ℕ) (a : Sym) → (AtComment mode.asm text → ⊥) → Longest (IsSymbol mode.asm) text front.kind front.size → rest ≡ drop front.size text → mode' ≡ mode_after_symbol mode front.kind → a ≡ symbol_at at mode front.kind front.size → list' ≡ list ++ a ∷ [] → TakesPiece at text mode list rest mode' list'
 takes_symbol at text mode mode' list list' front rest a no_comment longest rest_is mode_is a_is list_is =
     let f = longest_front mode.asm text front.kind front.size longest in
     let bytes = longest.begins.bytes in

@@ -6,16 +6,16 @@ use Rattle.bv_base.proofs.Lists.{same_head, same_tail, same_fronts}
 use Rattle.bas_lex.specs.Bytes.{Each, NotFirst}
 use Rattle.bas_lex.specs.Scan.{IsRun}
 
--- a byte that passes a test stands first
+-- a byte that passes a test comes first
 pub not_first : (test : ℕ → Bool) (text rest : List ℕ) (c : ℕ) → text ≡ c ∷ rest → test c ≡ true → NotFirst test text → ⊥
 not_first test text rest c e passes fails = both_ways (test c) (subst (NotFirst test) e fails) passes
 
 -- A run that goes to a byte which fails the test covers every other run.
-pub covers : (test : ℕ → Bool) (run other rest behind : List ℕ) → Each test other → NotFirst test rest → run ++ rest ≡ other ++ behind → (more : List ℕ) × (run ≡ other ++ more) × (behind ≡ more ++ rest)
-covers test run [] rest behind each stops e = (run, refl, sym e)
-covers test [] (c ∷ other) rest behind each stops e = absurd (not_first test rest _ c e each.0 stops)
-covers test (r ∷ run) (c ∷ other) rest behind each stops e =
-    let next = covers test run other rest behind each.1 stops (same_tail _ _ _ _ e) in
+pub covers : (test : ℕ → Bool) (run other rest mode_after : List ℕ) → Each test other → NotFirst test rest → run ++ rest ≡ other ++ mode_after → (more : List ℕ) × (run ≡ other ++ more) × (mode_after ≡ more ++ rest)
+covers test run [] rest mode_after each stops e = (run, refl, sym e)
+covers test [] (c ∷ other) rest mode_after each stops e = absurd (not_first test rest _ c e each.0 stops)
+covers test (r ∷ run) (c ∷ other) rest mode_after each stops e =
+    let next = covers test run other rest mode_after each.1 stops (same_tail _ _ _ _ e) in
     (next.0, (λ i. same_head _ _ _ _ e i ∷ next.1 i), next.2)
 
 pub each_back : (test : ℕ → Bool) (front back : List ℕ) → Each test (front ++ back) → Each test back
@@ -47,11 +47,11 @@ abbrev pub run_read : (test : ℕ → Bool) (text rest : List ℕ) → ReadsRun 
 run_read test text rest r stops = record { run = r.run; each = r.each; split = r.split; stops = stops }
 
 -- two runs up to a byte which fails the test are the same
-pub same_runs : (test : ℕ → Bool) (run other rest behind : List ℕ) → Each test run → Each test other → NotFirst test rest → NotFirst test behind → run ++ rest ≡ other ++ behind → (run ≡ other) × (rest ≡ behind)
-same_runs test run other rest behind each each' stops stops' e =
-    let f = covers test run other rest behind each' stops e in
-    let g = covers test other run behind rest each stops' (sym e) in
-    same_fronts run other rest behind (omega (arith, ap length f.1, ap length g.1, length-append other f.0, length-append run g.0)) e
+pub same_runs : (test : ℕ → Bool) (run other rest mode_after : List ℕ) → Each test run → Each test other → NotFirst test rest → NotFirst test mode_after → run ++ rest ≡ other ++ mode_after → (run ≡ other) × (rest ≡ mode_after)
+same_runs test run other rest mode_after each each' stops stops' e =
+    let f = covers test run other rest mode_after each' stops e in
+    let g = covers test other run mode_after rest each stops' (sym e) in
+    same_fronts run other rest mode_after (omega (arith, ap length f.1, ap length g.1, length-append other f.0, length-append run g.0)) e
 
 -- what an answer says, by what another says of it
 pub match_map : {T : Type 0} (o : Option T) (P P' : Type 0) (Q Q' : T → Type 0) → (P → P') → ((x : T) → Q x → Q' x) → MatchOption o P Q → MatchOption o P' Q'

@@ -7,7 +7,7 @@ use Rattle.bas_lex.specs.declared.symbol.Sym.{Sym}
 use Rattle.bas_lex.specs.declared.symbol.SymKind.{SymKind}
 use Rattle.bas_lex.specs.declared.symbol.SymKind.TheVariants as kinds
 use Rattle.bas_lex.specs.Kinds.{IsSymbol}
-use Rattle.bas_lex.specs.Cut.{Piece, Space, Comment, Symbol, Tailed, bytes_of, IsPiece, behind, at_line, Cuts, symbol_at, piece_symbols, symbols_of, Symbols, IsTailed, IsSpelled}
+use Rattle.bas_lex.specs.Cut.{Piece, Space, Comment, Symbol, Tailed, bytes_of, IsPiece, mode_after, at_line, Cuts, symbol_at, piece_symbols, symbols_of, Symbols, IsTailed, IsSpelled}
 use Rattle.bas_lex.proofs.Runs.{all_joined}
 use Rattle.bas_lex.proofs.Pieces.{symbol_is}
 
@@ -17,7 +17,7 @@ middle front part back from e =
     let size : from + length part - from ≡ length part = omega arith in
     (λ i. take (size i) (drop (e i) (front ++ (part ++ back)))) ∙ ap (λ l. take (length part) l) (drop-append_seam front (part ++ back)) ∙ take-append_seam part back
 
--- a symbol of n bytes at the place behind a front
+-- a symbol of n bytes at the place after a front
 spelled_at : (text front part back : List ℕ) (from : ℕ) (mode : Mode) (kind : SymKind) → text ≡ front ++ (part ++ back) → from ≡ length front
     → (((asm : Bool) × (rest : List ℕ) × IsSymbol asm kind part rest) ⊎ IsTailed kind part) → IsSpelled text (symbol_at from mode kind (length part))
 spelled_at text front part back from mode kind text_is from_is is =
@@ -46,7 +46,7 @@ cut_spelled text front rest last_rest from mode last [] text_is from_is cut = tt
 cut_spelled text front rest last_rest from mode last (piece ∷ pieces) text_is from_is cut =
     let here : text ≡ front ++ (bytes_of piece ++ cut.0) = text_is ∙ ap (λ l. front ++ l) cut.1.0 in
     all_joined (IsSpelled text) (piece_symbols from mode piece) _ (piece_spelled text front cut.0 from mode piece here from_is cut.1.1)
-    (cut_spelled text (front ++ bytes_of piece) cut.0 last_rest (from + length (bytes_of piece)) (behind mode piece) last pieces (here ∙ sym (append_assoc front (bytes_of piece) cut.0)) (omega (arith, from_is, length-append front (bytes_of piece))) cut.2)
+    (cut_spelled text (front ++ bytes_of piece) cut.0 last_rest (from + length (bytes_of piece)) (mode_after mode piece) last pieces (here ∙ sym (append_assoc front (bytes_of piece) cut.0)) (omega (arith, from_is, length-append front (bytes_of piece))) cut.2)
 
 -- the symbols of a text are spelled as their kinds are
 pub texts_spelled : (asm asm_after : Bool) (text : List ℕ) (list : List Sym) → Symbols asm text list asm_after → AllByRecursion (IsSpelled text) list

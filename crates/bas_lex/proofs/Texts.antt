@@ -10,7 +10,7 @@ use Rattle.bas_lex.specs.Scan.{Texts, is_quote, Closes, ClosesLast}
 use Rattle.bv_base.proofs.Lists.{same_head, same_tail}
 use Rattle.bas_lex.proofs.Runs.{not_first}
 
--- Where a string is closed: at a first quotation mark, behind two of them, or behind another byte.
+-- Where a string is closed: at a first quotation mark, after two of them, or after another byte.
 data Closing (text : List ℕ) (size : ℕ) : Type 0 where
   Here : (rest : List ℕ) → text ≡ quotation_mark ∷ rest → size ≡ 1 → Closing text size
   BehindTwo : (more : List ℕ) (n : ℕ) → text ≡ quotation_mark ∷ quotation_mark ∷ more → Closes more n → size ≡ 2 + n → Closing text size
@@ -29,8 +29,8 @@ where_closed text size closes = by_contents closes.contents closes.split closes.
     by_contents [] split size_is = Here closes.rest split (omega (arith, size_is))
     by_contents (k ∷ contents) split size_is = by_first k contents (k == quotation_mark) refl split size_is
 
-closes_behind_two : (more : List ℕ) (n : ℕ) → Closes more n → Closes (quotation_mark ∷ quotation_mark ∷ more) (2 + n)
-closes_behind_two more n c = record {
+closes_after_two : (more : List ℕ) (n : ℕ) → Closes more n → Closes (quotation_mark ∷ quotation_mark ∷ more) (2 + n)
+closes_after_two more n c = record {
   contents = quotation_mark ∷ c.contents;
   rest = c.rest;
   split = ap (λ l. quotation_mark ∷ quotation_mark ∷ l) c.split;
@@ -44,8 +44,8 @@ doubled_other c contents other = cases (c == quotation_mark) refl
     cases true is = absurd (other (eqb-true c quotation_mark is))
     cases false is = refl
 
-closes_behind_other : (c : ℕ) (more : List ℕ) (n : ℕ) → c ≢ quotation_mark → Closes more n → Closes (c ∷ more) (1 + n)
-closes_behind_other c more n other closes = record {
+closes_after_other : (c : ℕ) (more : List ℕ) (n : ℕ) → c ≢ quotation_mark → Closes more n → Closes (c ∷ more) (1 + n)
+closes_after_other c more n other closes = record {
   contents = c ∷ closes.contents;
   rest = closes.rest;
   split = ap (λ l. c ∷ l) closes.split ∙ ap (λ l. l ++ quotation_mark ∷ closes.rest) (sym (doubled_other c closes.contents other));
@@ -55,7 +55,7 @@ closes_behind_other c more n other closes = record {
 closes_here : (rest : List ℕ) → Closes (quotation_mark ∷ rest) 1
 closes_here rest = record { contents = []; rest = rest; split = refl; size_is = refl }
 
--- behind n bytes
+-- after n bytes
 abbrev further : ℕ → Option ℕ → Option ℕ
 further n None = None
 further n (Some k) = Some (n + k)
@@ -73,14 +73,14 @@ closes_nowhere size closes = by_case (where_closed [] size closes)
     by_case (BehindTwo more n e c size_is) = cc
     by_case (BehindOther c more n e other closes' size_is) = cc
 
-last_behind_two : (more : List ℕ) (x : Option ℕ) → ClosesLast more x → ClosesLast (quotation_mark ∷ quotation_mark ∷ more) (or_first x)
-last_behind_two more None none = (closes_here (quotation_mark ∷ more), λ other closes. by_case other (where_closed _ other closes))
+last_after_two : (more : List ℕ) (x : Option ℕ) → ClosesLast more x → ClosesLast (quotation_mark ∷ quotation_mark ∷ more) (or_first x)
+last_after_two more None none = (closes_here (quotation_mark ∷ more), λ other closes. by_case other (where_closed _ other closes))
   where
     by_case : (other : ℕ) → Closing (quotation_mark ∷ quotation_mark ∷ more) other → other ≤ 1
     by_case other (Here rest e size_is) = omega (arith, size_is)
     by_case other (BehindTwo after n e c size_is) = absurd (none n (subst (λ l. Closes l n) (sym (same_tail _ _ _ _ (same_tail _ _ _ _ e))) c))
     by_case other (BehindOther c after n e not_mark closes size_is) = absurd (not_mark (sym (same_head _ _ _ _ e)))
-last_behind_two more (Some k) last = (closes_behind_two more k last.0, λ other closes. by_case other (where_closed _ other closes))
+last_after_two more (Some k) last = (closes_after_two more k last.0, λ other closes. by_case other (where_closed _ other closes))
   where
     by_case : (other : ℕ) → Closing (quotation_mark ∷ quotation_mark ∷ more) other → other ≤ 2 + k
     by_case other (Here rest e size_is) = omega (arith, size_is)
@@ -88,14 +88,14 @@ last_behind_two more (Some k) last = (closes_behind_two more k last.0, λ other 
         let most = last.1 n (subst (λ l. Closes l n) (sym (same_tail _ _ _ _ (same_tail _ _ _ _ e))) c) in omega (arith, most, size_is)
     by_case other (BehindOther c after n e not_mark closes size_is) = absurd (not_mark (sym (same_head _ _ _ _ e)))
 
-last_behind_other : (c : ℕ) (more : List ℕ) (x : Option ℕ) → c ≢ quotation_mark → ClosesLast more x → ClosesLast (c ∷ more) (further 1 x)
-last_behind_other c more None other none = λ size closes. by_case size (where_closed _ size closes)
+last_after_other : (c : ℕ) (more : List ℕ) (x : Option ℕ) → c ≢ quotation_mark → ClosesLast more x → ClosesLast (c ∷ more) (further 1 x)
+last_after_other c more None other none = λ size closes. by_case size (where_closed _ size closes)
   where
     by_case : (size : ℕ) → Closing (c ∷ more) size → ⊥
     by_case size (Here rest e size_is) = other (same_head _ _ _ _ e)
     by_case size (BehindTwo after n e closes size_is) = other (same_head _ _ _ _ e)
     by_case size (BehindOther d after n e not_mark closes size_is) = none n (subst (λ l. Closes l n) (sym (same_tail _ _ _ _ e)) closes)
-last_behind_other c more (Some k) other last = (closes_behind_other c more k other last.0, λ size closes. by_case size (where_closed _ size closes))
+last_after_other c more (Some k) other last = (closes_after_other c more k other last.0, λ size closes. by_case size (where_closed _ size closes))
   where
     by_case : (size : ℕ) → Closing (c ∷ more) size → size ≤ 1 + k
     by_case size (Here rest e size_is) = omega (arith, size_is)
@@ -111,13 +111,13 @@ last_here rest single = (closes_here rest, λ other closes. by_case other (where
     by_case other (BehindTwo after n e closes size_is) = absurd (not_first is_quote rest after quotation_mark (same_tail _ _ _ _ e) refl single)
     by_case other (BehindOther c after n e not_mark closes size_is) = absurd (not_mark (sym (same_head _ _ _ _ e)))
 
--- the last closing mark of the rest, behind a front of n bytes, or else that of the front
+-- the last closing mark of the rest, after a front of n bytes, or else that of the front
 abbrev pub found : Option ℕ → ℕ → Option ℕ → Option ℕ
 found last at None = last
 found last at (Some k) = Some (at + k)
 
 -- What was found so far at the front of a text, and what the rest will give, are what the whole gives: whatever is
--- the last closing mark of the rest, behind the front, or else the last of the front, is the last of the text.
+-- the last closing mark of the rest, after the front, or else the last of the front, is the last of the text.
 pub record FindsLast (text rest : List ℕ) (last : Option ℕ) : Type 0 where
   pub within : length rest ≤ length text
   pub joins : (x : Option ℕ) → ClosesLast rest x → ClosesLast text (found last (length text - length rest) x)
@@ -134,10 +134,10 @@ finds_two text rest after last size rest_is size_is f = record { within = omega 
   where
     joins : (x : Option ℕ) → ClosesLast after x → ClosesLast text (found (Some size) (length text - length after) x)
     joins None none =
-        let whole = f.joins (Some 1) (subst (λ l. ClosesLast l (Some 1)) (sym rest_is) (last_behind_two after None none)) in
+        let whole = f.joins (Some 1) (subst (λ l. ClosesLast l (Some 1)) (sym rest_is) (last_after_two after None none)) in
         subst (λ n. ClosesLast text (Some n)) (sym size_is) whole
     joins (Some k) l =
-        let whole = f.joins (Some (2 + k)) (subst (λ l. ClosesLast l (Some (2 + k))) (sym rest_is) (last_behind_two after (Some k) l)) in
+        let whole = f.joins (Some (2 + k)) (subst (λ l. ClosesLast l (Some (2 + k))) (sym rest_is) (last_after_two after (Some k) l)) in
         let same : length text - length rest + (2 + k) ≡ length text - length after + k = omega (arith, f.within, ap length rest_is) in
         subst (λ n. ClosesLast text (Some n)) same whole
 
@@ -145,9 +145,9 @@ pub finds_other : (text rest after : List ℕ) (last : Option ℕ) (c : ℕ) →
 finds_other text rest after last c rest_is other f = record { within = omega (arith, f.within, ap length rest_is); joins = joins }
   where
     joins : (x : Option ℕ) → ClosesLast after x → ClosesLast text (found last (length text - length after) x)
-    joins None none = f.joins None (subst (λ l. ClosesLast l None) (sym rest_is) (last_behind_other c after None other none))
+    joins None none = f.joins None (subst (λ l. ClosesLast l None) (sym rest_is) (last_after_other c after None other none))
     joins (Some k) l =
-        let whole = f.joins (Some (1 + k)) (subst (λ l. ClosesLast l (Some (1 + k))) (sym rest_is) (last_behind_other c after (Some k) other l)) in
+        let whole = f.joins (Some (1 + k)) (subst (λ l. ClosesLast l (Some (1 + k))) (sym rest_is) (last_after_other c after (Some k) other l)) in
         let same : length text - length rest + (1 + k) ≡ length text - length after + k = omega (arith, f.within, ap length rest_is) in
         subst (λ n. ClosesLast text (Some n)) same whole
 
@@ -193,13 +193,13 @@ last_of [] = (None, closes_nowhere)
 last_of (c ∷ []) =
     elim (cases_eq c quotation_mark) [
       | inl e ↦ (Some 1, subst (λ n. ClosesLast (n ∷ []) (Some 1)) (sym e) (last_here [] tt))
-      | inr other ↦ (None, last_behind_other c [] None other closes_nowhere)
+      | inr other ↦ (None, last_after_other c [] None other closes_nowhere)
     ]
 last_of (c ∷ d ∷ text) =
     elim (cases_eq c quotation_mark) [
-      | inr other ↦ let next = last_of (d ∷ text) in (further 1 next.0, last_behind_other c (d ∷ text) next.0 other next.1)
+      | inr other ↦ let next = last_of (d ∷ text) in (further 1 next.0, last_after_other c (d ∷ text) next.0 other next.1)
       | inl e ↦ elim (cases_eq d quotation_mark) [
-        | inl f ↦ let next = last_of text in (or_first next.0, subst (λ l. ClosesLast l (or_first next.0)) (λ i. sym e i ∷ sym f i ∷ text) (last_behind_two text next.0 next.1))
+        | inl f ↦ let next = last_of text in (or_first next.0, subst (λ l. ClosesLast l (or_first next.0)) (λ i. sym e i ∷ sym f i ∷ text) (last_after_two text next.0 next.1))
         | inr single ↦ (Some 1, subst (λ n. ClosesLast (n ∷ d ∷ text) (Some 1)) (sym e) (last_here (d ∷ text) (ne_eqb d quotation_mark single)))
       ]
     ]

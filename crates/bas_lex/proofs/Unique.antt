@@ -10,7 +10,7 @@ use Rattle.bas_lex.specs.declared.symbol.Sym.{Sym}
 use Rattle.bas_lex.specs.declared.symbol.SymKind.{SymKind}
 use Rattle.bas_lex.specs.declared.symbol.SymKind.TheVariants as kinds
 use Rattle.bas_lex.specs.Kinds.{IsSymbol, signs}
-use Rattle.bas_lex.specs.Cut.{Piece, Space, Comment, Symbol, Tailed, begins_comment, AtComment, Fits, behind, at_line, Cuts, symbols_of, Symbols, NoPiece, Bad}
+use Rattle.bas_lex.specs.Cut.{Piece, Space, Comment, Symbol, Tailed, begins_comment, AtComment, Fits, mode_after, at_line, Cuts, symbols_of, Symbols, NoPiece, Bad}
 use Rattle.bv_base.proofs.Lists.{same_head, same_tail, same_fronts}
 use Rattle.bas_lex.proofs.Tokens.{pair_begins}
 use Rattle.bas_lex.proofs.Classes.{OfSign, OfToken, class_of, of_class, class_of_symbol, at_place}
@@ -153,7 +153,7 @@ one_way mode mode' text text' (p ∷ ps) [] last last' rest rest' same_mode same
 one_way mode mode' text text' (p ∷ ps) (q ∷ qs) last last' rest rest' same_mode same_text f g end end' =
     let here : Fits mode'.asm p text' f.0 = subst (λ (m : Mode). Fits m.asm p text' f.0) same_mode (subst (λ t. Fits mode.asm p t f.0) same_text f.1) in
     let same = one_piece mode'.asm p q text' f.0 g.0 here g.1 in
-    let others = one_way (behind mode p) (behind mode' q) f.0 g.0 ps qs last last' rest rest' (λ i. behind (same_mode i) (same.0 i)) same.1 f.2 g.2 end end' in
+    let others = one_way (mode_after mode p) (mode_after mode' q) f.0 g.0 ps qs last last' rest rest' (λ i. mode_after (same_mode i) (same.0 i)) same.1 f.2 g.2 end end' in
     ((λ i. same.0 i ∷ others.0 i), others.1)
 
 pub cut_once : (asm : Bool) (text : List ℕ) (a b : List Sym) (c d : Bool) → Symbols asm text a c → Symbols asm text b d → (a ≡ b) × (c ≡ d)

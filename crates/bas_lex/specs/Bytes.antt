@@ -1,4 +1,4 @@
--- Tests of bytes, and what stands at the front of a list.
+-- Tests of bytes, and what is at the front of a list.
 use Rattle.std.specs.Prelude.{◌≡◌, ℕ, Bool, true, false, ◌||◌, ◌==◌, List, [], ◌∷◌}
 use Rattle.std.specs.List.{AllByRecursion}
 
@@ -43,7 +43,7 @@ backslash = 0x5c
 abbrev pub Each : (ℕ → Bool) → List ℕ → Type 0
 Each test bytes = AllByRecursion (λ c. test c ≡ true) bytes
 
--- no byte that passes the test stands first
+-- no byte that passes the test comes first
 abbrev pub NotFirst : (ℕ → Bool) → List ℕ → Type 0
 NotFirst test [] = Unit {0}
 NotFirst test (c ∷ rest) = test c ≡ false

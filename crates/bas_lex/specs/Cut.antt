@@ -46,15 +46,15 @@ begins_comment asm c = asm && (c == semicolon || (c == backslash || c == REM))
 abbrev pub AtComment : Bool → List ℕ → Type 0
 AtComment asm text = (c : ℕ) × (rest : List ℕ) × (text ≡ c ∷ rest) × (begins_comment asm c ≡ true)
 
--- What a piece must be where the rest stands behind it. A comment and a Tail reach to the line's end. A symbol
--- stands where no comment begins, and is the longest that begins there.
+-- What a piece must be where the rest follows it. A comment and a Tail reach to the line's end. A symbol
+-- begins where no comment begins, and is the longest that begins there.
 abbrev pub IsPiece : Bool → Piece → List ℕ → Type 0
 IsPiece asm Space rest = Unit {0}
 IsPiece asm (Comment bytes) rest = AtComment asm bytes × (rest ≡ [])
 IsPiece asm (Symbol kind bytes) rest = (AtComment asm (bytes ++ rest) → ⊥) × Longest (IsSymbol asm) (bytes ++ rest) kind (length bytes)
 IsPiece asm (Tailed token tail) rest = (((token ≡ REM) × (asm ≡ false)) ⊎ (token ≡ DATA)) × (rest ≡ [])
 
--- a piece begins the text, and the rest stands behind it
+-- a piece begins the text, and the rest follows it
 abbrev pub Fits : Bool → Piece → List ℕ → List ℕ → Type 0
 Fits asm piece text rest = (text ≡ bytes_of piece ++ rest) × IsPiece asm piece rest
 
@@ -62,38 +62,38 @@ Fits asm piece text rest = (text ≡ bytes_of piece ++ rest) × IsPiece asm piec
 abbrev pub NoPiece : Bool → List ℕ → Type 0
 NoPiece asm text = (piece : Piece) (rest : List ℕ) → Fits asm piece text rest → ⊥
 
--- How the text goes on behind a sign. `[` turns the assembler on. While it is on, a statement begins behind this `[`
--- and behind `:`, and `]` turns the assembler off where a statement begins.
-abbrev pub behind_sign : Mode → ℕ → Mode
-behind_sign mode n =
+-- How the text goes on after a sign. `[` turns the assembler on. While it is on, a statement begins after this `[`
+-- and after `:`, and `]` turns the assembler off where a statement begins.
+abbrev pub mode_after_sign : Mode → ℕ → Mode
+mode_after_sign mode n =
     if n == OPEN_SQUARE then record { asm = true; start = not mode.asm }
     else if n == CLOSE_SQUARE && mode.start then record { asm = false; start = false }
     else record { asm = mode.asm; start = n == COLON }
 
--- how it goes on behind a symbol
-abbrev pub behind_symbol : Mode → SymKind → Mode
-behind_symbol mode (kinds.Mark n) = behind_sign mode n
-behind_symbol mode kind = record { asm = mode.asm; start = false }
+-- how it goes on after a symbol
+abbrev pub mode_after_symbol : Mode → SymKind → Mode
+mode_after_symbol mode (kinds.Mark n) = mode_after_sign mode n
+mode_after_symbol mode kind = record { asm = mode.asm; start = false }
 
--- how it goes on behind a piece
-abbrev pub behind : Mode → Piece → Mode
-behind mode (Symbol kind bytes) = behind_symbol mode kind
-behind mode piece = mode
+-- how it goes on after a piece
+abbrev pub mode_after : Mode → Piece → Mode
+mode_after mode (Symbol kind bytes) = mode_after_symbol mode kind
+mode_after mode piece = mode
 
 -- at the start of a line
 abbrev pub at_line : Bool → Mode
 at_line asm = record { asm = asm; start = true }
 
--- The text is cut into these pieces, one behind the other, up to the rest, and is read as the last mode says there.
+-- The text is cut into these pieces, one after the other, up to the rest, and is read as the last mode says there.
 abbrev pub Cuts : Mode → List ℕ → List Piece → Mode → List ℕ → Type 0
 Cuts mode text [] last rest = (last ≡ mode) × (rest ≡ text)
 Cuts mode text (piece ∷ pieces) last rest =
-    (next : List ℕ) × Fits mode.asm piece text next × Cuts (behind mode piece) next pieces last rest
+    (next : List ℕ) × Fits mode.asm piece text next × Cuts (mode_after mode piece) next pieces last rest
 
--- A symbol of n bytes at a place. It is in the assembler where the assembler is on before and behind it.
+-- A symbol of n bytes at a place. It is in the assembler where the assembler is on before and after it.
 abbrev pub symbol_at : ℕ → Mode → SymKind → ℕ → Sym
 symbol_at from mode kind size =
-    record { kind = kind; from = from; to = from + size; asm = mode.asm && (behind_symbol mode kind).asm }
+    record { kind = kind; from = from; to = from + size; asm = mode.asm && (mode_after_symbol mode kind).asm }
 
 -- the symbols of a piece that begins at a place: spaces and comments are dropped
 abbrev pub piece_symbols : ℕ → Mode → Piece → List Sym
@@ -106,10 +106,10 @@ piece_symbols from mode piece = []
 abbrev pub symbols_of : ℕ → Mode → List Piece → List Sym
 symbols_of from mode [] = []
 symbols_of from mode (piece ∷ pieces) =
-    piece_symbols from mode piece ++ symbols_of (from + length (bytes_of piece)) (behind mode piece) pieces
+    piece_symbols from mode piece ++ symbols_of (from + length (bytes_of piece)) (mode_after mode piece) pieces
 
 -- The text, read with the assembler on or off, is cut into these symbols, dropped spaces and dropped comments, and
--- the assembler is on or off behind it.
+-- the assembler is on or off after it.
 pub record Symbols (asm : Bool) (text : List ℕ) (list : List Sym) (asm_after : Bool) : Type 0 where
   pub pieces : List Piece
   pub last : Mode
@@ -117,7 +117,7 @@ pub record Symbols (asm : Bool) (text : List ℕ) (list : List Sym) (asm_after :
   pub listed : list ≡ symbols_of 0 (at_line asm) pieces
   pub after : asm_after ≡ last.asm
 
--- The symbols' spans lie one behind the other from a place on, up to another.
+-- The symbols' spans lie one after the other from a place on, up to another.
 abbrev pub AreInOrder : ℕ → List Sym → ℕ → Type 0
 AreInOrder from [] to = from ≤ to
 AreInOrder from (symbol ∷ more) to = (from ≤ symbol.from) × (symbol.from ≤ symbol.to) × AreInOrder symbol.to more to
@@ -126,7 +126,7 @@ AreInOrder from (symbol ∷ more) to = (from ≤ symbol.from) × (symbol.from �
 abbrev pub IsFilled : Sym → Type 0
 IsFilled symbol = symbol.kind ≢ kinds.Tail → symbol.from < symbol.to
 
--- no symbol stands behind a Tail
+-- no symbol follows a Tail
 abbrev pub IsTailLast : List Sym → Type 0
 IsTailLast [] = Unit {0}
 IsTailLast (symbol ∷ more) = (symbol.kind ≡ kinds.Tail → more ≡ []) × IsTailLast more
@@ -143,7 +143,7 @@ IsSpelled text symbol =
     ((asm : Bool) × (rest : List ℕ) × IsSymbol asm symbol.kind (slice_range text symbol.from symbol.to) rest)
     ⊎ IsTailed symbol.kind (slice_range text symbol.from symbol.to)
 
--- Such a cut reaches this place of the text, and no piece begins at the byte that stands there.
+-- Such a cut reaches this place of the text, and no piece begins at the byte that is there.
 pub record Bad (asm : Bool) (text : List ℕ) (at : ℕ) : Type 0 where
   pub pieces : List Piece
   pub last : Mode
@@ -153,7 +153,7 @@ pub record Bad (asm : Bool) (text : List ℕ) (at : ℕ) : Type 0 where
   pub some : rest ≢ []
   pub none : NoPiece last.asm rest
 
--- when each error comes: want of memory is free
+-- when each error comes: running out of memory is free
 abbrev pub Explains : Bool → List ℕ → LexError → Type 0
 Explains asm text (errors.Bad at) = Bad asm text at
 Explains asm text errors.NoMemory = Unit {0}

@@ -72,7 +72,7 @@ abbrev pub call_token : Bool → ℕ
 call_token true = FN
 call_token false = PROC
 
--- A call: FN or PROC, and directly behind it a name, which may begin with a digit.
+-- A call: FN or PROC, and directly after it a name, which may begin with a digit.
 pub record IsCall (function bracket : Bool) (bytes : List ℕ) : Type 0 where
   pub first : ℕ
   pub more : List ℕ
@@ -89,7 +89,7 @@ pub record IsLabel (bytes : List ℕ) : Type 0 where
   pub is_name : IsName suffix false name
   pub spelled : bytes ≡ point ∷ name
 
--- what stands before the digits: nothing, `&` or `%`
+-- what comes before the digits: nothing, `&` or `%`
 abbrev pub radix_mark : Radix → List ℕ
 radix_mark radixes.Decimal = []
 radix_mark radixes.Hexadecimal = ampersand ∷ []
@@ -107,7 +107,7 @@ value_bound radixes.Decimal = 2 ^ 31
 value_bound radixes.Hexadecimal = 2 ^ 32
 value_bound radixes.Binary = 2 ^ 32
 
--- A number: all the digits that stand there, with a value below the bound, which is taken as a signed 32-bit number.
+-- A number: all the digits that are there, with a value below the bound, which is taken as a signed 32-bit number.
 pub record IsNumber (radix : Radix) (value : ℤ) (bytes rest : List ℕ) : Type 0 where
   pub digits : List ℕ
   pub some : digits ≢ []
@@ -176,8 +176,8 @@ numbered_signs =
     (CARET, codes "^") ∷
     []
 
--- These bytes are one symbol of this kind, where the rest stands behind them, with the assembler on or off. A Tail
--- is none by itself, but stands behind REM and DATA.
+-- These bytes are one symbol of this kind, where the rest follows them, with the assembler on or off. A Tail
+-- is none by itself, but follows REM and DATA.
 abbrev pub IsSymbol : Bool → SymKind → List ℕ → List ℕ → Type 0
 IsSymbol asm (kinds.Token n) bytes rest = IsSingle n bytes ⊎ IsPair n bytes
 IsSymbol asm (kinds.Name suffix bracket) bytes rest = IsName suffix bracket bytes

@@ -108,15 +108,15 @@ SplitsPercent text rest = (text ≡ percent_sign ∷ rest) ⊎ ((text ≡ rest) 
 
 -- The most that goes on with a name.
 pub record EndsName (text : List ℕ) (end : NameEnd) : Type 0 where
-  pub behind_letters : List ℕ
-  pub behind_suffix : List ℕ
+  pub after_letters : List ℕ
+  pub after_suffix : List ℕ
   pub rest : List ℕ
-  pub letters : IsRun is_in_name text behind_letters
-  pub suffix : SplitsSuffix behind_letters end.suffix behind_suffix
-  pub bracket : SplitsBracket behind_suffix end.bracket rest
+  pub letters : IsRun is_in_name text after_letters
+  pub suffix : SplitsSuffix after_letters end.suffix after_suffix
+  pub bracket : SplitsBracket after_suffix end.bracket rest
   pub size : end.size + length rest ≡ length text
 
--- A label's name at the front, with the rest behind the longest one.
+-- A label's name at the front, with the rest after the longest one.
 pub record EndsLabel (text rest : List ℕ) : Type 0 where
   pub name : List ℕ
   pub suffix : ℕ
@@ -125,11 +125,11 @@ pub record EndsLabel (text rest : List ℕ) : Type 0 where
   pub split : text ≡ name ++ rest
   pub longest : (other rest' : List ℕ) (s : ℕ) → s ≢ dollar_sign → IsName s false other → text ≡ other ++ rest' → length other ≤ length name
 
--- no label's name stands at the front
+-- no label's name is at the front
 abbrev pub NoLabelName : List ℕ → Type 0
 NoLabelName text = (name rest : List ℕ) (suffix : ℕ) → IsName suffix false name → text ≡ name ++ rest → ⊥
 
--- The digits that stand first, their number, and their value, which counts only below 2^32.
+-- The digits that come first, their number, and their value, which counts only below 2^32.
 pub record HasDigits (radix : Radix) (text : List ℕ) (digits : DigitRun) : Type 0 where
   pub rest : List ℕ
   pub run : IsRun (is_digit (base radix)) text rest
@@ -140,7 +140,7 @@ pub record HasDigits (radix : Radix) (text : List ℕ) (digits : DigitRun) : Typ
 abbrev pub is_quote : ℕ → Bool
 is_quote c = c == quotation_mark
 
--- what stands first of a string's bytes behind its first quotation mark
+-- what comes first of a string's bytes after its first quotation mark
 abbrev pub IsPart : List ℕ → Part → Type 0
 IsPart text (parts.Doubled after) = text ≡ quotation_mark ∷ quotation_mark ∷ after.now
 IsPart text parts.Closing = (rest : List ℕ) × (text ≡ quotation_mark ∷ rest) × NotFirst is_quote rest
@@ -164,7 +164,7 @@ abbrev pub longer_of : Option Front → Front → Option Front
 longer_of None front = Some front
 longer_of (Some old) front = if nat_le front.size old.size then Some old else Some front
 
--- what was found before, or the sign of this number where it is longer and stands at the front
+-- what was found before, or the sign of this number where it is longer and is at the front
 abbrev pub longer_sign : Option Front → ℕ → List ℕ → List ℕ → Option Front
 longer_sign found number sign text =
     if starts_with nat_eq text sign then longer_of found (record { kind = kinds.Mark number; size = length sign }) else found

@@ -11,7 +11,7 @@ pub struct Front {
     pub size: usize,
 }
 
-/// The first byte of a text, and what stands behind it.
+/// The first byte of a text, and what follows it.
 pub fn split_byte(text: &[u8]) -> Option<(u8, &[u8])>
     ensures { MatchOption result (text.now ≡ []) (λ front. text.now ≡ front.0 ∷ front.1.now) }
 {

@@ -20,7 +20,7 @@ fn strip_letter(text: &[u8]) -> Option<(u8, &[u8])>
     }
 }
 
-/// What stands behind the letters, digits, `_` and pound signs at the front.
+/// What follows the letters, digits, `_` and pound signs at the front.
 fn skip_letters(text: &[u8]) -> &[u8]
     ensures { IsRun is_in_name text.now result.now }
 {
@@ -31,7 +31,7 @@ fn skip_letters(text: &[u8]) -> &[u8]
     rest
 }
 
-/// A suffix at the front, or `NO_SUFFIX`, and what stands behind it.
+/// A suffix at the front, or `NO_SUFFIX`, and what follows it.
 fn split_suffix(text: &[u8]) -> (u8, &[u8])
     ensures { SplitsSuffix text.now result.0 result.1.now }
 {
@@ -41,7 +41,7 @@ fn split_suffix(text: &[u8]) -> (u8, &[u8])
     }
 }
 
-/// Whether a bracket stands at the front, and what stands behind it.
+/// Whether a bracket is at the front, and what follows it.
 fn split_bracket(text: &[u8]) -> (bool, &[u8])
     ensures { SplitsBracket text.now result.0 result.1.now }
 {
@@ -51,7 +51,7 @@ fn split_bracket(text: &[u8]) -> (bool, &[u8])
     }
 }
 
-/// What goes on with a name behind its first byte: a suffix or `NO_SUFFIX`, whether there is a bracket, and the number
+/// What goes on with a name after its first byte: a suffix or `NO_SUFFIX`, whether there is a bracket, and the number
 /// of bytes.
 #[derive(Clone, Copy, Drop)]
 struct NameEnd {
@@ -63,8 +63,8 @@ struct NameEnd {
 fn read_name_end(text: &[u8]) -> NameEnd
     ensures { EndsName text.now result }
 {
-    let (suffix, behind_suffix) = split_suffix(skip_letters(text));
-    let (bracket, rest) = split_bracket(behind_suffix);
+    let (suffix, after_suffix) = split_suffix(skip_letters(text));
+    let (bracket, rest) = split_bracket(after_suffix);
     NameEnd {
         suffix,
         bracket,
@@ -72,7 +72,7 @@ fn read_name_end(text: &[u8]) -> NameEnd
     }
 }
 
-/// The name that begins with `first`, which has `after` behind it.
+/// The name that begins with `first`, which `after` follows.
 pub fn read_name(first: u8, after: &[u8]) -> Front
     requires { begins_name first ≡ true }
     ensures { Best Names (first ∷ after.now) (Some result) }
@@ -87,7 +87,7 @@ pub fn read_name(first: u8, after: &[u8]) -> Front
     }
 }
 
-/// The name `@%`, where `after` stands behind an `@`.
+/// The name `@%`, where `after` is what follows an `@`.
 pub fn read_system_name(after: &[u8]) -> Option<Front>
     ensures { Best SystemNames (at_sign ∷ after.now) result }
 {
@@ -103,7 +103,7 @@ pub fn read_system_name(after: &[u8]) -> Option<Front>
     }
 }
 
-/// The call or the token alone of FN or PROC, where `after` stands behind the token.
+/// The call or the token alone of FN or PROC, where `after` is what follows the token.
 pub fn read_call(function: bool, after: &[u8]) -> Front
     ensures { Best (Calls function) (call_token function ∷ after.now) (Some result) }
 {
@@ -154,7 +154,7 @@ fn skip_percent(text: &[u8]) -> &[u8]
     }
 }
 
-/// What stands behind the name of a label, where there is one.
+/// What follows the name of a label, where there is one.
 fn skip_label_name(text: &[u8]) -> Option<&[u8]>
     ensures { MatchOption result (NoLabelName text.now) (λ rest. EndsLabel text.now rest.now) }
 {
@@ -164,7 +164,7 @@ fn skip_label_name(text: &[u8]) -> Option<&[u8]>
     }
 }
 
-/// The label, where `after` stands behind a point.
+/// The label, where `after` is what follows a point.
 pub fn read_label(after: &[u8], asm: bool) -> Option<Front>
     ensures { Best (Labels asm) (point ∷ after.now) result }
 {

@@ -59,7 +59,7 @@ impl Radix {
     }
 }
 
-/// The number whose digits begin `text`, which stands behind `&` or `%` where the radix has them.
+/// The number whose digits begin `text`, which follows `&` or `%` where the radix has them.
 pub fn read_number(radix: Radix, text: &[u8]) -> Option<Front>
     ensures { Best (Numbers radix) (radix_mark radix ++ text.now) result }
 {

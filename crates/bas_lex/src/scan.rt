@@ -2,7 +2,7 @@
 ghost use Rattle.std.specs.Prelude.{◌≡◌, ◌≢◌, ◌≤◌, ◌+◌, ◌∷◌, length, IfOk, IfErr};
 ghost use Rattle.std.specs.List.{AllByRecursion};
 ghost use Rattle.bas_lex.specs.Kinds.{IsSymbol};
-ghost use Rattle.bas_lex.specs.Cut.{begins_comment, behind_sign, behind_symbol, symbol_at, Symbols, AreInOrder, IsFilled, IsTailLast, IsSpelled, Explains};
+ghost use Rattle.bas_lex.specs.Cut.{begins_comment, mode_after_sign, mode_after_symbol, symbol_at, Symbols, AreInOrder, IsFilled, IsTailLast, IsSpelled, Explains};
 ghost use Rattle.bas_lex.specs.Scan.{Best};
 ghost use Rattle.bas_lex.specs.Next.{IsNext, TakesPiece, ExplainsPiece};
 
@@ -51,9 +51,9 @@ fn begins_comment(byte: u8, asm: bool) -> bool
     asm && matches!(byte, b';' | b'\\' | REM)
 }
 
-/// What stands first in a text.
+/// What comes first in a text.
 enum Next<'a> {
-    /// A space, and what stands behind it.
+    /// A space, and what follows it.
     Space(&'a [u8]),
     /// A comment, to the line's end.
     Comment,
@@ -84,8 +84,8 @@ fn read_next(text: &[u8], asm: bool) -> Next<'_>
     }
 }
 
-fn behind_sign(mode: Mode, number: u8) -> Mode
-    ensures { result ≡ behind_sign mode number }
+fn mode_after_sign(mode: Mode, number: u8) -> Mode
+    ensures { result ≡ mode_after_sign mode number }
 {
     match number {
         OPEN_SQUARE => Mode {
@@ -103,11 +103,11 @@ fn behind_sign(mode: Mode, number: u8) -> Mode
     }
 }
 
-fn behind_symbol(mode: Mode, kind: SymKind) -> Mode
-    ensures { result ≡ behind_symbol mode kind }
+fn mode_after_symbol(mode: Mode, kind: SymKind) -> Mode
+    ensures { result ≡ mode_after_symbol mode kind }
 {
     match kind {
-        SymKind::Mark(number) => behind_sign(mode, number),
+        SymKind::Mark(number) => mode_after_sign(mode, number),
         _ => Mode {
             asm: mode.asm,
             start: false,
@@ -123,11 +123,11 @@ fn symbol_at(from: u8, mode: Mode, kind: SymKind, size: usize) -> Sym
         kind,
         from,
         to: from + size as u8,
-        asm: mode.asm && behind_symbol(mode, kind).asm,
+        asm: mode.asm && mode_after_symbol(mode, kind).asm,
     }
 }
 
-/// Takes what stands first in `text`, adds its symbols to the list, and gives what stands behind it. `at` is the place
+/// Takes what comes first in `text`, adds its symbols to the list, and gives what follows it. `at` is the place
 /// of `text` in the line.
 fn take_piece<'a>(
     list: &mut Vec<Sym>,
@@ -150,7 +150,7 @@ fn take_piece<'a>(
         }
         Next::Symbol(front) => {
             list.push(symbol_at(at, *mode, front.kind, front.size))?;
-            *mode = behind_symbol(*mode, front.kind);
+            *mode = mode_after_symbol(*mode, front.kind);
             Ok(&text[front.size..])
         }
         Next::Nothing => Err(LexError::Bad { at }),

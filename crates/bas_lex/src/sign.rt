@@ -28,7 +28,7 @@ fn longer_of(found: Option<Front>, front: Front) -> Option<Front>
     }
 }
 
-/// What was found before, or the sign of this number where it is longer and stands at the front.
+/// What was found before, or the sign of this number where it is longer and is at the front.
 fn longer_sign(found: Option<Front>, number: u8, sign: &[u8], text: &[u8]) -> Option<Front>
     ensures { result ≡ longer_sign found number sign.now text.now }
 {

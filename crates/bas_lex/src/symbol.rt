@@ -23,7 +23,7 @@ pub enum SymKind {
     LineRef(u16),
     /// A sign, by its number, which `sign_numbers` has.
     Mark(u8),
-    /// The bytes behind REM or DATA, which may be none.
+    /// The bytes after REM or DATA, which may be none.
     Tail,
 }
 
@@ -33,9 +33,9 @@ pub struct Sym {
     pub kind: SymKind,
     /// The place of its first byte in the text.
     pub from: u8,
-    /// The place behind its last byte.
+    /// The place after its last byte.
     pub to: u8,
-    /// Whether it stands in the assembler, between the two square brackets.
+    /// Whether it is in the assembler, between the two square brackets.
     pub asm: bool,
 }
 
@@ -43,7 +43,7 @@ pub struct Sym {
 #[derive(Debug, Drop)]
 pub struct SymbolRun {
     pub list: Items<Sym>,
-    /// Whether the assembler is on behind the line.
+    /// Whether the assembler is on after the line.
     pub asm_after: bool,
 }
 
@@ -52,7 +52,7 @@ pub struct SymbolRun {
 pub enum LexError {
     /// No symbol begins at this place of the text.
     Bad { at: u8 },
-    /// There was no memory for the symbols.
+    /// Memory ran out for the symbols.
     NoMemory,
 }
 
@@ -61,7 +61,7 @@ pub enum LexError {
 pub struct Mode {
     /// Whether the assembler is on.
     pub asm: bool,
-    /// Whether a statement begins here: at the start of a line, behind `:`, or behind the `[` that turned the assembler
+    /// Whether a statement begins here: at the start of a line, after `:`, or after the `[` that turned the assembler
     /// on.
     pub start: bool,
 }

@@ -6,11 +6,11 @@ ghost use Rattle.bas_lex.specs.Scan.{Best, Texts, IsPart, ClosesLast};
 use crate::front::Front;
 use crate::symbol::SymKind;
 
-/// What stands first of a string's bytes behind its first quotation mark, and what stands behind that.
+/// What comes first of a string's bytes after its first quotation mark, and what follows that.
 enum Part<'a> {
     /// Two quotation marks, which stand for one.
     Doubled(&'a [u8]),
-    /// A quotation mark with no other behind it.
+    /// A quotation mark with no other after it.
     Closing,
     /// Any other byte.
     Other(&'a [u8]),
@@ -48,7 +48,7 @@ fn find_closing(text: &[u8]) -> Option<usize>
     }
 }
 
-/// The string, where `after` stands behind its first quotation mark.
+/// The string, where `after` is what follows its first quotation mark.
 pub fn read_text(after: &[u8]) -> Option<Front>
     ensures { Best Texts (quotation_mark ∷ after.now) result }
 {

@@ -60,7 +60,7 @@ pub fn read_token(first: u8, after: &[u8]) -> Option<Front>
     })
 }
 
-/// The reference to a line, where `after` stands behind the byte that begins one.
+/// The reference to a line, where `after` is what follows the byte that begins one.
 pub fn read_line_ref(after: &[u8]) -> Option<Front>
     ensures { Best LineRefs (LINE_REFERENCE ∷ after.now) result }
 {

@@ -7,7 +7,7 @@ use Rattle.std.specs.Str.Parse.{digits_value}
 use Rattle.std.proofs.lemmas.Bool.{ne_eqb}
 use Rattle.bv_base.specs.Limits.{longest_text, line_numbers}
 use Rattle.bv_num.specs.Digits.{is_digit, digit_byte, decimal_digits}
-use Rattle.bv_num.specs.Value.{behind_spaces, front_digits, front_value, begins_with}
+use Rattle.bv_num.specs.Value.{after_spaces, front_digits, front_value, begins_with}
 use Rattle.bv_num.proofs.Numerals.{digits-split, digits-each, decimal_byte, decimal_digits-written, digits_value-digits}
 use Rattle.bv_token.specs.Tokens.{onto_first}
 use Rattle.token_file.specs.declared.line.Line.{Line}
@@ -50,8 +50,8 @@ digit_range : (b : ℕ) → is_digit 10 b ≡ true → (48 ≤ b) × (b ≤ 57)
 digit_range b is = decimal_byte b (ltb-true (digit_value b) 10 is)
 
 -- spaces before a digit
-spaces_passed : (k c : ℕ) (rest : List ℕ) → c ≢ 32 → behind_spaces (replicate k 32 ++ c ∷ rest) ≡ c ∷ rest
-spaces_passed zero c rest other = ap (λ t. if t then behind_spaces rest else c ∷ rest) (ne_eqb c 32 other)
+spaces_passed : (k c : ℕ) (rest : List ℕ) → c ≢ 32 → after_spaces (replicate k 32 ++ c ∷ rest) ≡ c ∷ rest
+spaces_passed zero c rest other = ap (λ t. if t then after_spaces rest else c ∷ rest) (ne_eqb c 32 other)
 spaces_passed (suc k) c rest other = spaces_passed k c rest other
 
 not_blank : (k c : ℕ) (rest : List ℕ) → c ≢ 32 → is_blank (replicate k 32 ++ c ∷ rest) ≡ false
@@ -64,12 +64,12 @@ spaces_avoid n (suc k) other = ((λ e. other (sym e)), spaces_avoid n k other)
 
 -- a piece in normal form, without its new line
 abbrev pub normal_piece : List ℕ → List ℕ
-normal_piece piece = justified 5 (decimal (front_value 10 (behind_spaces piece))) ++ body_of piece
+normal_piece piece = justified 5 (decimal (front_value 10 (after_spaces piece))) ++ body_of piece
 
--- what stands behind digits that aren't none
-behind_some : (k : ℕ) (row body : List ℕ) → length row ≢ 0 → AllByRecursion (λ b. is_digit 10 b ≡ true) row → (behind_spaces (replicate k 32 ++ (row ++ body)) ≡ row ++ body) × (is_blank (replicate k 32 ++ (row ++ body)) ≡ false)
-behind_some k [] body some each = absurd (some refl)
-behind_some k (c ∷ row) body some each =
+-- what follows digits of which there is at least one
+after_some : (k : ℕ) (row body : List ℕ) → length row ≢ 0 → AllByRecursion (λ b. is_digit 10 b ≡ true) row → (after_spaces (replicate k 32 ++ (row ++ body)) ≡ row ++ body) × (is_blank (replicate k 32 ++ (row ++ body)) ≡ false)
+after_some k [] body some each = absurd (some refl)
+after_some k (c ∷ row) body some each =
     let range = digit_range c each.0 in
     (spaces_passed k c (row ++ body) (λ e. omega (arith, range.0, e)), not_blank k c (row ++ body) (λ e. omega (arith, range.0, e)))
 
@@ -82,10 +82,10 @@ front_value_row row body each stops = ap (digits_value 10) (row_append (is_digit
 line_again : (k number : ℕ) (body : List ℕ) (line : Line) → number < line_numbers → line.number ≡ number → take_while (is_digit 10) body ≡ [] → CrunchesTo body line.text → length line.text ≤ longest_text → IsLineOf (replicate k 32 ++ (decimal number ++ body)) line
 line_again k number body line low is_number stops crunches short =
     let each = each_digit number low in
-    let behind = (behind_some k (decimal number) body (some_digit number low) each).0 in
-    let row : number_digits (replicate k 32 ++ (decimal number ++ body)) ≡ decimal number = ap (front_digits 10) behind ∙ row_append (is_digit 10) (decimal number) body each stops in
-    let value : front_value 10 (behind_spaces (replicate k 32 ++ (decimal number ++ body))) ≡ number = ap (front_value 10) behind ∙ front_value_row (decimal number) body each stops ∙ ap (digits_value 10) (sym (written number low)) ∙ digits_value-digits 10 number (omega arith) (omega arith) in
-    let rest : body_of (replicate k 32 ++ (decimal number ++ body)) ≡ body = ap (λ r. drop (length r) (behind_spaces (replicate k 32 ++ (decimal number ++ body)))) row ∙ ap (drop (length (decimal number))) behind ∙ drop_row (decimal number) body in
+    let text_after = (after_some k (decimal number) body (some_digit number low) each).0 in
+    let row : number_digits (replicate k 32 ++ (decimal number ++ body)) ≡ decimal number = ap (front_digits 10) text_after ∙ row_append (is_digit 10) (decimal number) body each stops in
+    let value : front_value 10 (after_spaces (replicate k 32 ++ (decimal number ++ body))) ≡ number = ap (front_value 10) text_after ∙ front_value_row (decimal number) body each stops ∙ ap (digits_value 10) (sym (written number low)) ∙ digits_value-digits 10 number (omega arith) (omega arith) in
+    let rest : body_of (replicate k 32 ++ (decimal number ++ body)) ≡ body = ap (λ r. drop (length r) (after_spaces (replicate k 32 ++ (decimal number ++ body)))) row ∙ ap (drop (length (decimal number))) text_after ∙ drop_row (decimal number) body in
     record {
       numbered = λ none. some_digit number low (ap length (sym row) ∙ none);
       number = is_number ∙ sym value;
@@ -96,27 +96,27 @@ line_again k number body line low is_number stops crunches short =
 
 -- what a piece in normal form is made of
 abbrev spaces_of : List ℕ → ℕ
-spaces_of piece = 5 - length (decimal (front_value 10 (behind_spaces piece)))
+spaces_of piece = 5 - length (decimal (front_value 10 (after_spaces piece)))
 
-shape : (piece : List ℕ) → normal_piece piece ≡ replicate (spaces_of piece) 32 ++ (decimal (front_value 10 (behind_spaces piece)) ++ body_of piece)
-shape piece = append_assoc (replicate (spaces_of piece) 32) (decimal (front_value 10 (behind_spaces piece))) (body_of piece)
+shape : (piece : List ℕ) → normal_piece piece ≡ replicate (spaces_of piece) 32 ++ (decimal (front_value 10 (after_spaces piece)) ++ body_of piece)
+shape piece = append_assoc (replicate (spaces_of piece) 32) (decimal (front_value 10 (after_spaces piece))) (body_of piece)
 
-low_number : (piece : List ℕ) (line : Line) → IsLineOf piece line → front_value 10 (behind_spaces piece) < line_numbers
+low_number : (piece : List ℕ) (line : Line) → IsLineOf piece line → front_value 10 (after_spaces piece) < line_numbers
 low_number piece line is = omega (arith, is.number, is.low)
 
 same_line : (piece : List ℕ) (line : Line) → IsLineOf piece line → IsLineOf (normal_piece piece) line
 same_line piece line is =
-    subst (λ p. IsLineOf p line) (sym (shape piece)) (line_again (spaces_of piece) (front_value 10 (behind_spaces piece)) (body_of piece) line (low_number piece line is) is.number (row_stops (is_digit 10) (behind_spaces piece)) is.body is.short)
+    subst (λ p. IsLineOf p line) (sym (shape piece)) (line_again (spaces_of piece) (front_value 10 (after_spaces piece)) (body_of piece) line (low_number piece line is) is.number (row_stops (is_digit 10) (after_spaces piece)) is.body is.short)
 
 is_kept : (piece : List ℕ) (line : Line) → IsLineOf piece line → is_blank (normal_piece piece) ≡ false
 is_kept piece line is =
     let low = low_number piece line is in
-    ap is_blank (shape piece) ∙ (behind_some (spaces_of piece) (decimal (front_value 10 (behind_spaces piece))) (body_of piece) (some_digit (front_value 10 (behind_spaces piece)) low) (each_digit (front_value 10 (behind_spaces piece)) low)).1
+    ap is_blank (shape piece) ∙ (after_some (spaces_of piece) (decimal (front_value 10 (after_spaces piece))) (body_of piece) (some_digit (front_value 10 (after_spaces piece)) low) (each_digit (front_value 10 (after_spaces piece)) low)).1
 
 piece_avoids : (n : ℕ) → IsControl n → (piece : List ℕ) (line : Line) → IsLineOf piece line → Avoids n (normal_piece piece)
 piece_avoids n control piece line is =
     let low = low_number piece line is in
-    let value = front_value 10 (behind_spaces piece) in
+    let value = front_value 10 (after_spaces piece) in
     subst (Avoids n) (sym (shape piece))
     (all_append (λ b. b ≢ n) (replicate (spaces_of piece) 32) (decimal value ++ body_of piece) (spaces_avoid n (spaces_of piece) (λ e. omega (arith, control.low, e)))
     (all_append (λ b. b ≢ n) (decimal value) (body_of piece) (all_map (λ b. is_digit 10 b ≡ true) (λ b. b ≢ n) (λ b digit e. (let range = digit_range b digit in omega (arith, range.0, e, control.low))) (decimal value) (each_digit value low)) (body_avoids n control (body_of piece) line.text is.body)))

@@ -17,7 +17,7 @@ use Rattle.basv_crunch.specs.declared.part.Kind.TheVariants as kinds
 use Rattle.basv_crunch.specs.declared.part.Part.{Part}
 use Rattle.basv_crunch.specs.declared.part.Place.{Place}
 use Rattle.basv_crunch.specs.declared.part.Place.TheVariants as places
-use Rattle.basv_crunch.specs.Parts.{part_of, unless_none, kept, is_reference, referred, Early, Alone, Before, by_place, token_at, worded, row, single, or_else, FirstOf, token_bytes, part_bytes, behind_part}
+use Rattle.basv_crunch.specs.Parts.{part_of, unless_none, kept, is_reference, referred, Early, Alone, Before, by_place, token_at, worded, row, single, or_else, FirstOf, token_bytes, part_bytes, after_part}
 use Rattle.basv_crunch.specs.Crunched.{CutInto, parts_bytes, IsLineOf, AreLines}
 use Rattle.basv_crunch.proofs.Rows.{row_is, row_passes, all_map, all_append}
 
@@ -157,7 +157,7 @@ clean_of (Before None) place text found is first =
 clean_parts : (place : Place) (text : List ℕ) (parts : List Part) → CutInto place text parts → Clean (parts_bytes text parts)
 clean_parts place text [] cut = tt
 clean_parts place text (part ∷ parts) cut =
-    all_append (λ b. b ≢ 13) (part_bytes part.kind (take part.size text)) (parts_bytes (drop part.size text) parts) (clean_of (by_place place text) place text (Some part) (clean_by_place place text) cut.1) (clean_parts (behind_part place part.kind) (drop part.size text) parts cut.2)
+    all_append (λ b. b ≢ 13) (part_bytes part.kind (take part.size text)) (parts_bytes (drop part.size text) parts) (clean_of (by_place place text) place text (Some part) (clean_by_place place text) cut.1) (clean_parts (after_part place part.kind) (drop part.size text) parts cut.2)
 
 -- the line of a piece is one that a record can hold
 pub fits_record : (piece : List ℕ) (line : Line) → IsLineOf piece line → IsLine line

@@ -26,11 +26,11 @@ without_return-le (b ∷ []) = cases (b == 13)
     cases false = omega arith
 without_return-le (b ∷ c ∷ more) = omega (arith, without_return-le (c ∷ more))
 
--- a row of bytes that end no line is the whole text, its one piece, or stands before a line end
+-- a row of bytes that end no line is the whole text, its one piece, or comes before a line end
 abbrev pub AtEnd : List ℕ → List ℕ → Type 0
 AtEnd text row = ((row ≡ text) × (pieces text ≡ text ∷ [])) ⊎ ((rest : List ℕ) × (text ≡ row ++ 10 ∷ rest) × (pieces text ≡ without_return row ∷ pieces rest))
 
--- what a byte that ends no line makes of the pieces behind it
+-- what a byte that ends no line makes of the pieces after it
 more_pieces : (b : ℕ) (rest : List ℕ) (t : Bool) → (b == 10) ≡ false → begins_with 10 rest ≡ t → pieces (b ∷ rest) ≡ (if b == 13 && t then pieces rest else onto_first b (pieces rest))
 more_pieces b rest t other begins =
     ap (λ u. if u then [] ∷ pieces rest else if b == 13 && begins_with 10 rest then pieces rest else onto_first b (pieces rest)) other
@@ -99,7 +99,7 @@ cut_piece text front back line after size is other is_front is_back is_line is_a
     by (inl one) = absurd (other (is ∙ ap length one.0))
     by (inr (rest, split, cut)) =
         let joined : take_while in_line text ++ back ≡ take_while in_line text ++ 10 ∷ rest = ap (λ f. f ++ back) (sym same_front) ∙ (λ i. is_front i ++ is_back i) ∙ take-append-drop size text ∙ split in
-        let behind : back ≡ 10 ∷ rest = append_cancel_left (take_while in_line text) back (10 ∷ rest) joined in
-        let rest_is : after ≡ rest = is_after ∙ ap (drop 1) behind in
+        let text_after : back ≡ 10 ∷ rest = append_cancel_left (take_while in_line text) back (10 ∷ rest) joined in
+        let rest_is : after ≡ rest = is_after ∙ ap (drop 1) text_after in
         let line_is : line ≡ without_return (take_while in_line text) = is_line ∙ ap without_return same_front in
         cut ∙ ap (λ l. l ∷ pieces rest) (sym line_is) ∙ ap (λ r. line ∷ pieces r) (sym rest_is)

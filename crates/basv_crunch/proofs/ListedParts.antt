@@ -22,7 +22,7 @@ use Rattle.basv_crunch.specs.declared.part.Part.{Part}
 use Rattle.basv_crunch.specs.declared.part.Place.{Place}
 use Rattle.basv_crunch.specs.declared.part.Place.TheVariants as places
 use Rattle.basv_crunch.specs.Pieces.{pieces}
-use Rattle.basv_crunch.specs.Parts.{part_of, unless_none, kept, called, is_reference, referred, Before, token_at, worded, row, single, or_else, FirstOf, FirstPart, part_bytes, behind_word, behind_space, behind_comma, behind_part}
+use Rattle.basv_crunch.specs.Parts.{part_of, unless_none, kept, called, is_reference, referred, Before, token_at, worded, row, single, or_else, FirstOf, FirstPart, part_bytes, after_word, after_space, after_comma, after_part}
 use Rattle.basv_crunch.specs.Crunched.{CutInto, parts_bytes, CrunchesTo, body_of, IsLineOf, AreLines, kept_pieces, IsText}
 use Rattle.basv_crunch.specs.NormalForm.{normal_line, normal_form}
 use Rattle.basv_crunch.proofs.Rows.{passes, fails, row_is, row_passes, all_map}
@@ -33,7 +33,7 @@ use Rattle.basv_crunch.proofs.Shown.{Lists, IsPlain, low_listed, row_listed, nam
 abbrev pub ListsPart : Place → List ℕ → Option Part → Type 0
 ListsPart place text None = Unit {0}
 ListsPart place text (Some part) =
-    (more : List ℕ) → Lists (behind_part place part.kind) more (drop part.size text) → listed 0 false (part_bytes part.kind (take part.size text) ++ more) ≡ text
+    (more : List ℕ) → Lists (after_part place part.kind) more (drop part.size text) → listed 0 false (part_bytes part.kind (take part.size text) ++ more) ≡ text
 
 -- a row of plain bytes
 lists_row : (n : ℕ) (text more : List ℕ) → AllByRecursion IsPlain (take n text) → listed 0 false more ≡ drop n text → listed 0 false (take n text ++ more) ≡ text
@@ -112,7 +112,7 @@ lists_worded place text (Some found) longest = λ more lists. (
     let b = longest.0 in
     let size : found.0 ≡ length b.word = sym b.size_is in
     let rest : drop found.0 text ≡ b.rest = ap (λ n. drop n text) size ∙ append_cancel_left b.word _ _ (ap (λ l. l ++ drop (length b.word) text) (sym (ap (take (length b.word)) b.spelled ∙ take-append_seam b.word b.rest)) ∙ take-append-drop (length b.word) text ∙ b.spelled) in
-    token_listed (token_at place found.1) b.word more b.rest (else_at place found.1 b.word b.is_word) (subst (λ r. Lists (behind_word (token_at place found.1)) more r) rest lists) ∙ sym b.spelled)
+    token_listed (token_at place found.1) b.word more b.rest (else_at place found.1 b.word b.is_word) (subst (λ r. Lists (after_word (token_at place found.1)) more r) rest lists) ∙ sym b.spelled)
 
 lists_row_part : (place : Place) (text : List ℕ) → ListsPart place text (row text)
 lists_row_part place [] = tt
@@ -137,32 +137,32 @@ lists_row_part place (b ∷ rest) = cases (b == 38) (begins_name b || b == 64) r
     cases false true _ is = λ more lists. lists_more (length (take_while is_in_name rest)) more (name_or_at is) (plain_taken is_in_name rest name_plain) lists
     cases false false _ _ = tt
 
-behind_space_lists : (place : Place) (more rest : List ℕ) → Lists (behind_space place) more rest → listed 0 false more ≡ rest
-behind_space_lists places.Start more rest lists = lists
-behind_space_lists places.Code more rest lists = lists
-behind_space_lists places.Quotes more rest lists = lists
-behind_space_lists places.Tail more rest lists = lists
-behind_space_lists places.Call more rest lists = lists
-behind_space_lists places.Awaiting more rest lists = lists
-behind_space_lists places.Referred more rest lists = lists
+after_space_lists : (place : Place) (more rest : List ℕ) → Lists (after_space place) more rest → listed 0 false more ≡ rest
+after_space_lists places.Start more rest lists = lists
+after_space_lists places.Code more rest lists = lists
+after_space_lists places.Quotes more rest lists = lists
+after_space_lists places.Tail more rest lists = lists
+after_space_lists places.Call more rest lists = lists
+after_space_lists places.Awaiting more rest lists = lists
+after_space_lists places.Referred more rest lists = lists
 
-behind_comma_lists : (place : Place) (more rest : List ℕ) → Lists (behind_comma place) more rest → listed 0 false more ≡ rest
-behind_comma_lists places.Start more rest lists = lists
-behind_comma_lists places.Code more rest lists = lists
-behind_comma_lists places.Quotes more rest lists = lists
-behind_comma_lists places.Tail more rest lists = lists
-behind_comma_lists places.Call more rest lists = lists
-behind_comma_lists places.Awaiting more rest lists = lists
-behind_comma_lists places.Referred more rest lists = lists
+after_comma_lists : (place : Place) (more rest : List ℕ) → Lists (after_comma place) more rest → listed 0 false more ≡ rest
+after_comma_lists places.Start more rest lists = lists
+after_comma_lists places.Code more rest lists = lists
+after_comma_lists places.Quotes more rest lists = lists
+after_comma_lists places.Tail more rest lists = lists
+after_comma_lists places.Call more rest lists = lists
+after_comma_lists places.Awaiting more rest lists = lists
+after_comma_lists places.Referred more rest lists = lists
 
 lists_single : (place : Place) (text : List ℕ) → ListsPart place text (single text)
 lists_single place [] = tt
 lists_single place (b ∷ rest) = cases (nat_le 32 b && nat_lt b 127) refl
   where
-    by_byte : (q s k : Bool) (more : List ℕ) → Lists (if q then places.Quotes else if s then behind_space place else if k then behind_comma place else places.Code) more rest → b ∷ listed 0 q more ≡ b ∷ rest
+    by_byte : (q s k : Bool) (more : List ℕ) → Lists (if q then places.Quotes else if s then after_space place else if k then after_comma place else places.Code) more rest → b ∷ listed 0 q more ≡ b ∷ rest
     by_byte true s k more lists = ap (λ l. b ∷ l) lists
-    by_byte false true k more lists = ap (λ l. b ∷ l) (behind_space_lists place more rest lists)
-    by_byte false false true more lists = ap (λ l. b ∷ l) (behind_comma_lists place more rest lists)
+    by_byte false true k more lists = ap (λ l. b ∷ l) (after_space_lists place more rest lists)
+    by_byte false false true more lists = ap (λ l. b ∷ l) (after_comma_lists place more rest lists)
     by_byte false false false more lists = ap (λ l. b ∷ l) lists
 
     cases : (t : Bool) → (nat_le 32 b && nat_lt b 127) ≡ t → ListsPart place (b ∷ rest) (if t then Some (part_of (kinds.Single b) 1) else None)
@@ -182,7 +182,7 @@ lists_before None place text found is first =
 -- between quotation marks
 abbrev QuotedPart : List ℕ → Option Part → Type 0
 QuotedPart text None = Unit {0}
-QuotedPart text (Some part) = (more : List ℕ) → Lists (behind_part places.Quotes part.kind) more (drop part.size text) → listed 0 true (part_bytes part.kind (take part.size text) ++ more) ≡ text
+QuotedPart text (Some part) = (more : List ℕ) → Lists (after_part places.Quotes part.kind) more (drop part.size text) → listed 0 true (part_bytes part.kind (take part.size text) ++ more) ≡ text
 
 quoted_kept : (text : List ℕ) → QuotedPart text (kept text)
 quoted_kept [] = tt
@@ -196,10 +196,10 @@ quoted_kept (b ∷ rest) = cases (nat_le 32 b && not (b == 127))
     cases true = λ more lists. by_byte (b == 34) more lists
     cases false = tt
 
--- behind REM and DATA
+-- after REM and DATA
 abbrev TailPart : List ℕ → Option Part → Type 0
 TailPart text None = Unit {0}
-TailPart text (Some part) = (more : List ℕ) → Lists (behind_part places.Tail part.kind) more (drop part.size text) → part_bytes part.kind (take part.size text) ++ more ≡ text
+TailPart text (Some part) = (more : List ℕ) → Lists (after_part places.Tail part.kind) more (drop part.size text) → part_bytes part.kind (take part.size text) ++ more ≡ text
 
 tail_kept : (text : List ℕ) → TailPart text (kept text)
 tail_kept [] = tt
@@ -218,7 +218,7 @@ nothing_lists places.Call text none = sym none
 nothing_lists places.Awaiting text none = sym none
 nothing_lists places.Referred text none = sym none
 
-part_lists : (place : Place) (text : List ℕ) (part : Part) (more : List ℕ) → FirstPart place text (Some part) → Lists (behind_part place part.kind) more (drop part.size text) → Lists place (part_bytes part.kind (take part.size text) ++ more) text
+part_lists : (place : Place) (text : List ℕ) (part : Part) (more : List ℕ) → FirstPart place text (Some part) → Lists (after_part place part.kind) more (drop part.size text) → Lists place (part_bytes part.kind (take part.size text) ++ more) text
 part_lists places.Start text part more first lists = lists_before None places.Start text (Some part) tt first more lists
 part_lists places.Code text part more first lists = lists_before None places.Code text (Some part) tt first more lists
 part_lists places.Referred text part more first lists = lists_before None places.Referred text (Some part) tt first more lists
@@ -229,7 +229,7 @@ part_lists places.Tail text part more first lists = (let tail : TailPart text (S
 
 parts_list : (place : Place) (text : List ℕ) (parts : List Part) → CutInto place text parts → Lists place (parts_bytes text parts) text
 parts_list place text [] cut = nothing_lists place text cut
-parts_list place text (part ∷ parts) cut = part_lists place text part (parts_bytes (drop part.size text) parts) cut.1 (parts_list (behind_part place part.kind) (drop part.size text) parts cut.2)
+parts_list place text (part ∷ parts) cut = part_lists place text part (parts_bytes (drop part.size text) parts) cut.1 (parts_list (after_part place part.kind) (drop part.size text) parts cut.2)
 
 -- what a body becomes lists as the body
 pub body_listed : (body text : List ℕ) → CrunchesTo body text → listed 0 false text ≡ body

@@ -13,7 +13,7 @@ digit_back c small = grind (arith, nat_tests)
 zero_digit : (c : ℕ) → digit_value c < 10 → digit_value c ≡ 0 → c ≡ 48
 zero_digit c small none = sym (digit_back c small) ∙ ap digit_byte none
 
--- digits behind those of a number that isn't 0
+-- digits after those of a number that isn't 0
 digits_on : (n : ℕ) (cs : List ℕ) → 0 < n → AllByRecursion (λ c. digit_value c < 10) cs → decimal_digits (digits_value_after 10 n cs) ≡ decimal_digits n ++ cs
 digits_on n [] some each = sym (append-nil (decimal_digits n))
 digits_on n (c ∷ cs) some each =

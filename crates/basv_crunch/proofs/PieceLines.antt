@@ -1,14 +1,14 @@
 -- Why a piece is no line, and that it is one line at most.
 use Rattle.std.proofs.Common.{◌≡◌, ℕ, ◌<◌, List, [], ◌∷◌, length, drop, refl, sym, ap, subst, ◌∙◌, arith}
 use Rattle.bv_base.specs.Limits.{longest_text}
-use Rattle.bv_num.specs.Value.{behind_spaces, front_digits}
+use Rattle.bv_num.specs.Value.{after_spaces, front_digits}
 use Rattle.token_file.specs.declared.line.Line.{Line}
 use Rattle.token_file.specs.Lines.{file_of}
 use Rattle.basv_crunch.specs.Pieces.{pieces}
 use Rattle.basv_crunch.specs.Crunched.{CrunchesTo, body_of, IsLineOf, AreLines, kept_pieces, IsFileOf}
 use Rattle.basv_crunch.proofs.Bodies.{one_text}
 
-pub body_is : (piece unspaced body : List ℕ) (count : ℕ) → unspaced ≡ behind_spaces piece → count ≡ length (front_digits 10 unspaced) → body ≡ drop count unspaced → body ≡ body_of piece
+pub body_is : (piece unspaced body : List ℕ) (count : ℕ) → unspaced ≡ after_spaces piece → count ≡ length (front_digits 10 unspaced) → body ≡ drop count unspaced → body ≡ body_of piece
 body_is piece unspaced body count is_unspaced is_count is_body =
     is_body ∙ ap (λ n. drop n unspaced) is_count ∙ ap (λ u. drop (length (front_digits 10 u)) u) is_unspaced
 

@@ -1,4 +1,4 @@
--- What bytes, rows, references and tokens list as, before what stands behind them.
+-- What bytes, rows, references and tokens list as, before what follows them.
 use Rattle.std.proofs.Common.{◌≡◌, ◌≢◌, inl, inr, ℕ, ◌/◌, ◌%◌, ◌<◌, ◌≤◌, Bool, true, false, not, ◌&&◌, ◌||◌, ◌==◌, nat_le, nat_lt, if◌then◌else◌, List, [], ◌∷◌, ◌++◌, length, drop, decimal, unwrap_or, codes, Some, is_some, refl, sym, ap, subst, ◌∙◌, arith, true≢false, leb-true, ltb-true, append_assoc}
 use Rattle.std.specs.Char.{digit_value}
 use Rattle.std.specs.List.{AllByRecursion}
@@ -18,7 +18,7 @@ use Rattle.lister.specs.Listing.{Shown, shown_as, shown, shown_byte, shown_pair,
 use Rattle.lister.proofs.Listed.{listed-drop}
 use Rattle.basv_crunch.specs.declared.part.Place.{Place}
 use Rattle.basv_crunch.specs.declared.part.Place.TheVariants as places
-use Rattle.basv_crunch.specs.Parts.{token_bytes, behind_word}
+use Rattle.basv_crunch.specs.Parts.{token_bytes, after_word}
 
 -- tokens from a place on list as this text
 abbrev pub Lists : Place → List ℕ → List ℕ → Type 0
@@ -105,9 +105,9 @@ single_tests t word small is =
     let others = and_parts (not (begins_pair t)) (not (t == 34)) first.1 in
     (not-true' _ first.0, not-true' _ others.0, not-true' _ others.1)
 
--- behind another word than REM and DATA what follows lists by itself
-behind_other : (t : ℕ) (more rest : List ℕ) → begins_tail t ≡ false → Lists (behind_word t) more rest → listed 0 false more ≡ rest
-behind_other t more rest no_tail = by _ (begins_tail t) _ no_tail
+-- after another word than REM and DATA what follows lists by itself
+after_other : (t : ℕ) (more rest : List ℕ) → begins_tail t ≡ false → Lists (after_word t) more rest → listed 0 false more ≡ rest
+after_other t more rest no_tail = by _ (begins_tail t) _ no_tail
   where
     by : (a b c : Bool) → b ≡ false → Lists (if a then places.Call else if b then places.Tail else if c then places.Awaiting else places.Code) more rest → listed 0 false more ≡ rest
     by true b c e lists = lists
@@ -115,17 +115,17 @@ behind_other t more rest no_tail = by _ (begins_tail t) _ no_tail
     by false false true e lists = lists
     by false false false e lists = lists
 
-behind_tail : (t : ℕ) → begins_tail t ≡ true → behind_word t ≡ places.Tail
-behind_tail t is =
+after_tail : (t : ℕ) → begins_tail t ≡ true → after_word t ≡ places.Tail
+after_tail t is =
     elim (cases_eq t rem_token) [
-      | inl e ↦ ap behind_word e
+      | inl e ↦ ap after_word e
       | inr not_rem ↦ elim (cases_eq t data_token) [
-        | inl e ↦ ap behind_word e
+        | inl e ↦ ap after_word e
         | inr not_data ↦ absurd (true≢false (sym is ∙ (λ i. ne_eqb t rem_token not_rem i || ne_eqb t data_token not_data i)))
       ]
     ]
 
-single_listed : (t : ℕ) (word more rest : List ℕ) → t < 256 → keyword_of_token t ≡ Some word → Lists (behind_word t) more rest → listed 0 false (t ∷ more) ≡ word ++ rest
+single_listed : (t : ℕ) (word more rest : List ℕ) → t < 256 → keyword_of_token t ≡ Some word → Lists (after_word t) more rest → listed 0 false (t ∷ more) ≡ word ++ rest
 single_listed t word more rest small is lists = by_tail (begins_tail t) refl
   where
     tests : ((t == line_reference) ≡ false) × (begins_pair t ≡ false) × ((t == 34) ≡ false)
@@ -143,7 +143,7 @@ single_listed t word more rest small is lists = by_tail (begins_tail t) refl
 
     by_tail : (u : Bool) → begins_tail t ≡ u → listed 0 false (t ∷ more) ≡ word ++ rest
     by_tail true e =
-        let same : more ≡ rest = subst (λ p. Lists p more rest) (behind_tail t e) lists in
+        let same : more ≡ rest = subst (λ p. Lists p more rest) (after_tail t e) lists in
         let none : listed (length more) false more ≡ [] = listed-drop (length more) false more ∙ ap (listed 0 false) (drop_all more) in
         lists_as true e ∙ ap (λ l. (word ++ more) ++ l) none ∙ append_assoc word more [] ∙ ap (λ l. word ++ l) (no_more more ∙ same)
       where
@@ -154,9 +154,9 @@ single_listed t word more rest small is lists = by_tail (begins_tail t) refl
         no_more : (l : List ℕ) → l ++ [] ≡ l
         no_more [] = refl
         no_more (c ∷ l) = ap (λ r. c ∷ r) (no_more l)
-    by_tail false e = lists_as false e ∙ ap (λ l. word ++ l) (behind_other t more rest e lists)
+    by_tail false e = lists_as false e ∙ ap (λ l. word ++ l) (after_other t more rest e lists)
 
-pair_listed : (t : ℕ) (word more rest : List ℕ) → 50688 ≤ t → t < 51456 → keyword_of_pair pairs (t / 256) (t % 256) ≡ Some word → Lists (behind_word t) more rest → listed 0 false (t / 256 ∷ t % 256 ∷ more) ≡ word ++ rest
+pair_listed : (t : ℕ) (word more rest : List ℕ) → 50688 ≤ t → t < 51456 → keyword_of_pair pairs (t / 256) (t % 256) ≡ Some word → Lists (after_word t) more rest → listed 0 false (t / 256 ∷ t % 256 ∷ more) ≡ word ++ rest
 pair_listed t word more rest least most is lists =
     let first_low : 198 ≤ t / 256 = omega (arith, least) in
     let first_high : t / 256 ≤ 200 = omega (arith, most) in
@@ -168,10 +168,10 @@ pair_listed t word more rest least most is lists =
     let no_tail : begins_tail t ≡ false = (λ i. ne_eqb t rem_token (λ e. omega (arith, least, e)) i || ne_eqb t data_token (λ e. omega (arith, least, e)) i) in
     ap (λ (s : Shown). s.text ++ listed s.taken (t / 256 == 34) (t % 256 ∷ more)) shows
     ∙ (λ i. unwrap_or (key i) (codes "<" ++ hex_byte (t / 256) ++ codes " " ++ hex_byte (t % 256) ++ codes ">") ++ listed 0 (no_quote i) more)
-    ∙ ap (λ l. word ++ l) (behind_other t more rest no_tail lists)
+    ∙ ap (λ l. word ++ l) (after_other t more rest no_tail lists)
 
 -- a token lists as its word
-pub token_listed : (t : ℕ) (word more rest : List ℕ) → word_of t ≡ Some word → Lists (behind_word t) more rest → listed 0 false (token_bytes t ++ more) ≡ word ++ rest
+pub token_listed : (t : ℕ) (word more rest : List ℕ) → word_of t ≡ Some word → Lists (after_word t) more rest → listed 0 false (token_bytes t ++ more) ≡ word ++ rest
 token_listed t word more rest is lists = by_size (nat_lt t 256) refl is (token_number t word is)
   where
     by_size : (u : Bool) → nat_lt t 256 ≡ u → (if u then keyword_of_token t else keyword_of_pair pairs (t / 256) (t % 256)) ≡ Some word → is_token_number t ≡ true → listed 0 false ((if u then t ∷ [] else t / 256 ∷ t % 256 ∷ []) ++ more) ≡ word ++ rest

@@ -1,4 +1,4 @@
--- A body has no byte that ends a line or stands before such a byte.
+-- A body has no byte that ends a line or comes before such a byte.
 use Rattle.std.proofs.Common.{◌≡◌, ◌≢◌, ℕ, suc, ◌+◌, ◌<◌, Bool, true, false, not, ◌&&◌, ◌||◌, ◌==◌, nat_le, nat_lt, if◌then◌else◌, List, [], ◌∷◌, length, take, drop, take_while, take-append-drop, Option, Some, None, refl, sym, ap, subst, ◌∙◌, arith, true≢false, leb-true}
 use Rattle.std.proofs.Math.Seq.{take-append_seam}
 use Rattle.std.specs.List.{AllByRecursion, list_all}
@@ -13,7 +13,7 @@ use Rattle.basv_crunch.specs.declared.part.Kind.TheVariants as kinds
 use Rattle.basv_crunch.specs.declared.part.Part.{Part}
 use Rattle.basv_crunch.specs.declared.part.Place.{Place}
 use Rattle.basv_crunch.specs.declared.part.Place.TheVariants as places
-use Rattle.basv_crunch.specs.Parts.{part_of, unless_none, kept, is_reference, referred, Early, Alone, Before, by_place, worded, row, single, or_else, FirstOf, behind_part}
+use Rattle.basv_crunch.specs.Parts.{part_of, unless_none, kept, is_reference, referred, Early, Alone, Before, by_place, worded, row, single, or_else, FirstOf, after_part}
 use Rattle.basv_crunch.specs.Crunched.{CutInto, CrunchesTo}
 use Rattle.basv_crunch.proofs.Rows.{row_is, row_passes, all_map, all_append}
 
@@ -131,7 +131,7 @@ cut_avoids : (n : ℕ) → IsControl n → (place : Place) (text : List ℕ) (pa
 cut_avoids n control place text [] cut = subst (Avoids n) (sym cut) tt
 cut_avoids n control place text (part ∷ parts) cut =
     subst (Avoids n) (take-append-drop part.size text)
-    (all_append (λ b. b ≢ n) (take part.size text) (drop part.size text) (of_avoids n control (by_place place text) place text (Some part) (by_place_avoids n control place text) cut.1) (cut_avoids n control (behind_part place part.kind) (drop part.size text) parts cut.2))
+    (all_append (λ b. b ≢ n) (take part.size text) (drop part.size text) (of_avoids n control (by_place place text) place text (Some part) (by_place_avoids n control place text) cut.1) (cut_avoids n control (after_part place part.kind) (drop part.size text) parts cut.2))
 
 pub body_avoids : (n : ℕ) → IsControl n → (body text : List ℕ) → CrunchesTo body text → Avoids n body
 body_avoids n control body text is = cut_avoids n control places.Start body is.parts is.cut

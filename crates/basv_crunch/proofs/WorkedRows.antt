@@ -4,7 +4,7 @@ use Rattle.basv_crunch.specs.declared.part.Kind.TheVariants as kinds
 use Rattle.basv_crunch.specs.declared.part.Place.TheVariants as places
 use Rattle.bv_num.specs.Value.{front_value}
 use Rattle.basv_crunch.specs.Pieces.{pieces}
-use Rattle.basv_crunch.specs.Parts.{part_of, kept, called, referred, worded, row, single, behind_part}
+use Rattle.basv_crunch.specs.Parts.{part_of, kept, called, referred, worded, row, single, after_part}
 
 -- one byte 13 before a byte 10 is dropped
 cut_row : pieces (65 ∷ 13 ∷ 13 ∷ 10 ∷ 66 ∷ []) ≡ (65 ∷ 13 ∷ []) ∷ (66 ∷ []) ∷ []
@@ -35,7 +35,7 @@ no_reference_row_65280 : referred (codes "65280") ≡ None
 unfolding front_value
 no_reference_row_65280 = refl
 
--- ELSE where only spaces stand before it, and elsewhere
+-- ELSE where only spaces come before it, and elsewhere
 else_row : worded places.Start (Some (4, 139)) ≡ Some (part_of (kinds.Word 204) 4)
 else_row = refl
 
@@ -55,9 +55,9 @@ no_single_row : single (9 ∷ []) ≡ None
 no_single_row = refl
 
 -- spaces about the comma of a list of references don't end it
-comma_row : behind_part (behind_part (behind_part places.Referred (kinds.Single 32)) (kinds.Single 44)) (kinds.Single 32) ≡ places.Awaiting
+comma_row : after_part (after_part (after_part places.Referred (kinds.Single 32)) (kinds.Single 44)) (kinds.Single 32) ≡ places.Awaiting
 comma_row = refl
 
--- behind a number that is no reference none is awaited
-digit_row : behind_part places.Awaiting (kinds.Single 48) ≡ places.Code
+-- after a number that is no reference none is awaited
+digit_row : after_part places.Awaiting (kinds.Single 48) ≡ places.Code
 digit_row = refl

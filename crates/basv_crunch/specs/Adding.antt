@@ -14,7 +14,7 @@ pub record AddsPiece (piece : List ℕ) (lines lines' : List Line) : Type 0 wher
   pub are_lines : AreLines (kept_pieces (piece ∷ [])) added
   pub whole : lines' ≡ lines ++ added
 
--- why no line was added: want of memory is free
+-- why no line was added: running out of memory is free
 abbrev pub IsBadPiece : List ℕ → ℕ → CrunchError → Type 0
 IsBadPiece piece number (errors.BadText line) = (line ≡ number) × (is_blank piece ≡ false) × ((other : Line) → IsLineOf piece other → ⊥)
 IsBadPiece piece number errors.TooLong = ⊥

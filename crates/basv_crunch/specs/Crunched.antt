@@ -1,7 +1,7 @@
 -- The file of a text, or why it has none. This project's own.
 use Rattle.std.specs.Prelude.{◌≡◌, ◌≢◌, ℕ, ◌+◌, ◌<◌, ◌≤◌, false, not, List, [], ◌∷◌, ◌++◌, length, take, drop, filter, Some}
 use Rattle.bv_base.specs.Limits.{longest_text, line_numbers, crunched_file_bytes}
-use Rattle.bv_num.specs.Value.{behind_spaces, front_digits, front_value}
+use Rattle.bv_num.specs.Value.{after_spaces, front_digits, front_value}
 use Rattle.token_file.specs.declared.line.Line.{Line}
 use Rattle.token_file.specs.Lines.{file_of}
 use Rattle.basv_crunch.specs.declared.part.Part.{Part}
@@ -10,13 +10,13 @@ use Rattle.basv_crunch.specs.declared.part.Place.TheVariants as places
 use Rattle.basv_crunch.specs.declared.error.CrunchError.{CrunchError}
 use Rattle.basv_crunch.specs.declared.error.CrunchError.TheVariants as errors
 use Rattle.basv_crunch.specs.Pieces.{pieces, is_blank}
-use Rattle.basv_crunch.specs.Parts.{FirstPart, part_bytes, behind_part}
+use Rattle.basv_crunch.specs.Parts.{FirstPart, part_bytes, after_part}
 
 -- a text from a place on is these parts, each by the first rule that fits
 abbrev pub CutInto : Place → List ℕ → List Part → Type 0
 CutInto place text [] = text ≡ []
 CutInto place text (part ∷ parts) =
-    (text ≢ []) × FirstPart place text (Some part) × CutInto (behind_part place part.kind) (drop part.size text) parts
+    (text ≢ []) × FirstPart place text (Some part) × CutInto (after_part place part.kind) (drop part.size text) parts
 
 -- the bytes of a text's parts in the file
 abbrev pub parts_bytes : List ℕ → List Part → List ℕ
@@ -29,19 +29,19 @@ pub record CrunchesTo (body text : List ℕ) : Type 0 where
   pub cut : CutInto places.Start body parts
   pub bytes : text ≡ parts_bytes body parts
 
--- the digits at the front of a piece behind its spaces, all that stand there
+-- the digits at the front of a piece after its spaces, all that are there
 abbrev pub number_digits : List ℕ → List ℕ
-number_digits piece = front_digits 10 (behind_spaces piece)
+number_digits piece = front_digits 10 (after_spaces piece)
 
--- what stands behind the number of a piece
+-- what follows the number of a piece
 abbrev pub body_of : List ℕ → List ℕ
-body_of piece = drop (length (number_digits piece)) (behind_spaces piece)
+body_of piece = drop (length (number_digits piece)) (after_spaces piece)
 
 -- A piece is this line: spaces, decimal digits of a number that a line can have, and a body that becomes the line's
 -- text, which a record can hold.
 pub record IsLineOf (piece : List ℕ) (line : Line) : Type 0 where
   pub numbered : length (number_digits piece) ≢ 0
-  pub number : line.number ≡ front_value 10 (behind_spaces piece)
+  pub number : line.number ≡ front_value 10 (after_spaces piece)
   pub low : line.number < line_numbers
   pub body : CrunchesTo (body_of piece) line.text
   pub short : length line.text ≤ longest_text
@@ -87,7 +87,7 @@ pub record IsTooLong (text : List ℕ) : Type 0 where
   pub is_text : IsText text lines
   pub long : crunched_file_bytes < length (file_of lines)
 
--- when each error comes: want of memory is free
+-- when each error comes: running out of memory is free
 abbrev pub ExplainsCrunch : List ℕ → CrunchError → Type 0
 ExplainsCrunch text (errors.BadText line) = IsBadText text line
 ExplainsCrunch text errors.TooLong = IsTooLong text

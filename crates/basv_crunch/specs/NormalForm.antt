@@ -1,6 +1,6 @@
 -- What the listing of a text's file is: the text in normal form. This project's own.
 use Rattle.std.specs.Prelude.{◌≡◌, ℕ, List, [], ◌∷◌, ◌++◌, decimal, flat_map}
-use Rattle.bv_num.specs.Value.{behind_spaces, front_value}
+use Rattle.bv_num.specs.Value.{after_spaces, front_value}
 use Rattle.token_file.specs.declared.line.Line.{Line}
 use Rattle.token_file.specs.Lines.{Lines, HasOneReading}
 use Rattle.lister.specs.Listing.{justified}
@@ -10,7 +10,7 @@ use Rattle.basv_crunch.specs.Crunched.{body_of, kept_pieces, IsText, IsFileOf}
 
 -- a piece in normal form: its number at the right of five columns, its body, and a new line
 abbrev pub normal_line : List ℕ → List ℕ
-normal_line piece = justified 5 (decimal (front_value 10 (behind_spaces piece))) ++ body_of piece ++ 10 ∷ []
+normal_line piece = justified 5 (decimal (front_value 10 (after_spaces piece))) ++ body_of piece ++ 10 ∷ []
 
 -- a text in normal form: its pieces but for the blank ones
 abbrev pub normal_form : List ℕ → List ℕ

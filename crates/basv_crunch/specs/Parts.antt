@@ -19,12 +19,12 @@ part_of kind size = record { kind = kind; size = size }
 abbrev pub unless_none : Kind → ℕ → Option Part
 unless_none kind size = if size == 0 then None else Some (part_of kind size)
 
--- Rule 1. Between quotation marks, and behind REM or DATA, a byte stands: one from 32 to 255, but not 127.
+-- Rule 1. Between quotation marks, and after REM or DATA, a byte is kept: one from 32 to 255, but not 127.
 abbrev pub kept : List ℕ → Option Part
 kept [] = None
 kept (b ∷ rest) = if nat_le 32 b && not (b == 127) then Some (part_of (kinds.Kept b) 1) else None
 
--- Rule 2. Directly behind FN or PROC the longest row of letters, digits, `_` and pound signs stands.
+-- Rule 2. Directly after FN or PROC the longest row of letters, digits, `_` and pound signs is kept.
 abbrev pub called : List ℕ → Option Part
 called text = unless_none kinds.Called (length (take_while is_in_name text))
 
@@ -49,7 +49,7 @@ by_place places.Call text = Before (called text)
 by_place places.Awaiting text = Before (referred text)
 by_place place text = Before None
 
--- ELSE has a token of its own where only spaces stand before it
+-- ELSE has a token of its own where only spaces come before it
 abbrev pub token_at : Place → ℕ → ℕ
 token_at places.Start token = if token == else_token then line_else_token else token
 token_at place token = token
@@ -59,8 +59,8 @@ abbrev pub worded : Place → Option (ℕ × ℕ) → Option Part
 worded place None = None
 worded place (Some word) = Some (part_of (kinds.Word (token_at place word.1)) word.0)
 
--- Rule 5. `&` with the hexadecimal digits behind it, or a letter, `_`, `@` or a pound sign with the letters, digits, `_`
--- and pound signs behind it, stands.
+-- Rule 5. `&` with the hexadecimal digits after it, or a letter, `_`, `@` or a pound sign with the letters, digits, `_`
+-- and pound signs after it, is kept.
 abbrev pub row : List ℕ → Option Part
 row [] = None
 row (b ∷ rest) =
@@ -101,44 +101,44 @@ part_bytes (kinds.Reference number) source = line_reference ∷ reference_of num
 part_bytes (kinds.Word token) source = token_bytes token
 part_bytes kind source = source
 
--- what is awaited behind a word
-abbrev pub behind_word : ℕ → Place
-behind_word token =
+-- what is awaited after a word
+abbrev pub after_word : ℕ → Place
+after_word token =
     if token == fn_token || token == proc_token then places.Call
     else if token == rem_token || token == data_token then places.Tail
     else if token == goto_token || (token == gosub_token || (token == then_token || (token == restore_token || token == else_token))) then places.Awaiting
     else places.Code
 
--- behind a space the line's start is still its start, and a reference is still awaited, or still the last
-abbrev pub behind_space : Place → Place
-behind_space places.Start = places.Start
-behind_space places.Awaiting = places.Awaiting
-behind_space places.Referred = places.Referred
-behind_space place = places.Code
+-- after a space the line's start is still its start, and a reference is still awaited, or still the last
+abbrev pub after_space : Place → Place
+after_space places.Start = places.Start
+after_space places.Awaiting = places.Awaiting
+after_space places.Referred = places.Referred
+after_space place = places.Code
 
--- a comma behind a reference awaits one more
-abbrev pub behind_comma : Place → Place
-behind_comma places.Referred = places.Awaiting
-behind_comma place = places.Code
+-- a comma after a reference awaits one more
+abbrev pub after_comma : Place → Place
+after_comma places.Referred = places.Awaiting
+after_comma place = places.Code
 
--- behind a byte that stands by the last rule
-abbrev pub behind_single : Place → ℕ → Place
-behind_single place b =
+-- after a byte that is kept by the last rule
+abbrev pub after_single : Place → ℕ → Place
+after_single place b =
     if b == 34 then places.Quotes
-    else if b == 32 then behind_space place
-    else if b == 44 then behind_comma place
+    else if b == 32 then after_space place
+    else if b == 44 then after_comma place
     else places.Code
 
 -- quotation marks end at the next one, and a tail at the line's end
-abbrev pub behind_kept : Place → ℕ → Place
-behind_kept places.Quotes b = if b == 34 then places.Code else places.Quotes
-behind_kept place b = place
+abbrev pub after_kept : Place → ℕ → Place
+after_kept places.Quotes b = if b == 34 then places.Code else places.Quotes
+after_kept place b = place
 
 -- where a part leads
-abbrev pub behind_part : Place → Kind → Place
-behind_part place (kinds.Kept b) = behind_kept place b
-behind_part place kinds.Called = places.Code
-behind_part place (kinds.Reference number) = places.Referred
-behind_part place (kinds.Word token) = behind_word token
-behind_part place kinds.Row = places.Code
-behind_part place (kinds.Single b) = behind_single place b
+abbrev pub after_part : Place → Kind → Place
+after_part place (kinds.Kept b) = after_kept place b
+after_part place kinds.Called = places.Code
+after_part place (kinds.Reference number) = places.Referred
+after_part place (kinds.Word token) = after_word token
+after_part place kinds.Row = places.Code
+after_part place (kinds.Single b) = after_single place b

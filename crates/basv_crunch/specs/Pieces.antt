@@ -4,7 +4,7 @@ use Rattle.std.specs.List.{list_all}
 use Rattle.bv_num.specs.Value.{begins_with}
 use Rattle.bv_token.specs.Tokens.{onto_first}
 
--- what stands between bytes 10, without one byte 13 before each of them
+-- what is between bytes 10, without one byte 13 before each of them
 abbrev pub pieces : List ℕ → List (List ℕ)
 pieces [] = [] ∷ []
 pieces (b ∷ rest) =

@@ -4,7 +4,7 @@ ghost use Rattle.basv_crunch.specs.Crunched.{CrunchesTo};
 ghost use Rattle.basv_crunch.specs.Parts.{part_bytes, token_bytes};
 
 use crate::part::{Kind, Place};
-use crate::rules::{behind_part, first_part};
+use crate::rules::{after_part, first_part};
 use bv_token::{LINE_REFERENCE, write_ref};
 use std::alloc::{AllocError, Global};
 
@@ -45,7 +45,7 @@ pub fn crunch_body(alloc: Global, body: &[u8]) -> Result<Option<Vec<u8>>, AllocE
         };
         let (source, after) = rest.split_at(part.size);
         push_part(&mut tokens, part.kind, source)?;
-        place = behind_part(place, part.kind);
+        place = after_part(place, part.kind);
         rest = after;
     }
     Ok(Some(tokens))

@@ -10,7 +10,7 @@ pub enum CrunchError {
     BadText { line: u32 },
     /// The file would have more than `CRUNCHED_FILE_BYTES` bytes.
     TooLong,
-    /// There was no memory for the file.
+    /// Memory ran out for the file.
     NoMemory,
 }
 

@@ -1,21 +1,21 @@
-//! What a part of a line's body is, and what is awaited behind it.
+//! What a part of a line's body is, and what is awaited after it.
 
-/// Where a part of a body begins, by what stands before it.
+/// Where a part of a body begins, by what comes before it.
 #[derive(Clone, Copy, Debug, PartialEq, Eq)]
 pub enum Place {
-    /// Only spaces stand before it.
+    /// Only spaces come before it.
     Start,
     /// None of the others.
     Code,
     /// Between quotation marks.
     Quotes,
-    /// Behind REM or DATA, to the line's end.
+    /// After REM or DATA, to the line's end.
     Tail,
-    /// Directly behind FN or PROC.
+    /// Directly after FN or PROC.
     Call,
     /// A reference to a line is awaited.
     Awaiting,
-    /// Behind a reference to a line, and spaces.
+    /// After a reference to a line, and spaces.
     Referred,
 }
 
@@ -24,7 +24,7 @@ pub enum Place {
 pub enum Kind {
     /// A byte between quotation marks, or in a tail.
     Kept(u8),
-    /// The name behind FN or PROC.
+    /// The name after FN or PROC.
     Called,
     /// A reference to the line of this number.
     Reference(u16),

@@ -41,7 +41,7 @@ fn without_return(text: &[u8]) -> &[u8]
     text
 }
 
-/// The first piece of a text, and what stands behind its line end, if it has one.
+/// The first piece of a text, and what follows its line end, if it has one.
 pub fn split_piece(text: &[u8]) -> (&[u8], Option<&[u8]>)
     ensures pieces { MatchOption result.1 (pieces text.now ≡ result.0.now ∷ []) (λ after. pieces text.now ≡ result.0.now ∷ pieces after.now) }
     ensures shorter { MatchOption result.1 (length result.0.now ≤ length text.now) (λ after. length result.0.now + length after.now < length text.now) }
@@ -51,7 +51,7 @@ pub fn split_piece(text: &[u8]) -> (&[u8], Option<&[u8]>)
         return (text, None);
     }
     let (line, end) = text.split_at(size);
-    (without_return(line), Some(behind(end, 1)))
+    (without_return(line), Some(text_after(end, 1)))
 }
 
 /// Whether a piece has nothing but spaces.
@@ -61,8 +61,8 @@ pub fn is_blank(piece: &[u8]) -> bool
     piece.iter().all(|byte| *byte == b' ')
 }
 
-/// What stands behind the first `count` bytes of a text.
-fn behind(text: &[u8], count: usize) -> &[u8]
+/// What follows the first `count` bytes of a text.
+fn text_after(text: &[u8], count: usize) -> &[u8]
     requires { count ≤ length text.now }
     ensures { result.now ≡ drop count text.now }
 {
@@ -78,7 +78,7 @@ pub fn crunch_piece(alloc: Global, piece: &[u8]) -> Result<Option<Line>, AllocEr
     if digits.count == 0 || digits.value >= u64::from(LINE_NUMBERS) {
         return Ok(None);
     }
-    let Some(text) = crunch_body(alloc, behind(unspaced, digits.count))? else {
+    let Some(text) = crunch_body(alloc, text_after(unspaced, digits.count))? else {
         return Ok(None);
     };
     if text.len() > LONGEST_TEXT {

@@ -2,7 +2,7 @@
 ghost use Rattle.std.specs.Prelude.{◌≡◌, ◌^◌, min, length, take_while};
 ghost use Rattle.bv_num.specs.Value.{front_digits, front_value};
 ghost use Rattle.bv_token.specs.Names.{is_in_name};
-ghost use Rattle.basv_crunch.specs.Parts.{unless_none, kept, called, is_reference, referred, token_at, worded, row, single, Before, FirstOf, FirstPart, behind_word, behind_space, behind_comma, behind_single, behind_kept, behind_part};
+ghost use Rattle.basv_crunch.specs.Parts.{unless_none, kept, called, is_reference, referred, token_at, worded, row, single, Before, FirstOf, FirstPart, after_word, after_space, after_comma, after_single, after_kept, after_part};
 
 use crate::part::{Kind, Part, Place};
 use bv_base::LINE_NUMBERS;
@@ -139,8 +139,8 @@ pub fn first_part(place: Place, text: &[u8]) -> Option<Part>
     }
 }
 
-fn behind_word(token: u16) -> Place
-    ensures { result ≡ behind_word token }
+fn after_word(token: u16) -> Place
+    ensures { result ≡ after_word token }
 {
     match u8::try_from(token) {
         Ok(FN | PROC) => Place::Call,
@@ -150,8 +150,8 @@ fn behind_word(token: u16) -> Place
     }
 }
 
-fn behind_single(place: Place, byte: u8) -> Place
-    ensures { result ≡ behind_single place byte }
+fn after_single(place: Place, byte: u8) -> Place
+    ensures { result ≡ after_single place byte }
 {
     match (byte, place) {
         (b'"', _) => Place::Quotes,
@@ -161,16 +161,16 @@ fn behind_single(place: Place, byte: u8) -> Place
     }
 }
 
-/// The place behind a part of this kind.
-pub fn behind_part(place: Place, kind: Kind) -> Place
-    ensures { result ≡ behind_part place kind }
+/// The place after a part of this kind.
+pub fn after_part(place: Place, kind: Kind) -> Place
+    ensures { result ≡ after_part place kind }
 {
     match kind {
         Kind::Kept(b'"') if place == Place::Quotes => Place::Code,
         Kind::Kept(_) => place,
-        Kind::Word(token) => behind_word(token),
+        Kind::Word(token) => after_word(token),
         Kind::Reference(_) => Place::Referred,
-        Kind::Single(byte) => behind_single(place, byte),
+        Kind::Single(byte) => after_single(place, byte),
         Kind::Called | Kind::Row => Place::Code,
     }
 }

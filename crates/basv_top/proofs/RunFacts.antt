@@ -16,7 +16,7 @@ use Rattle.basv_top.specs.RunCommand.{HasRun, Unrunnable, WordsEndRun, EndsRun, 
 use Rattle.basv_top.proofs.Taken.{taken_is, missing≢taken, untaken_content, untaken_missing}
 use Rattle.basv_top.proofs.Statuses.{refused≢, refused≢run, run_has}
 
--- an image has at most so many bytes
+-- an image has at most this number of bytes
 image_is_short : (bytes words : List ℕ) → ImageOf bytes words → length bytes ≤ image_bytes
 image_is_short bytes words is = omega (arith, ap length is.spelled, length-flat_map-word_bytes words, is.short)
 

@@ -80,7 +80,7 @@ module _ (before after : SeenShelf) (name : List ℕ) (max : ℕ) (long : Refusa
   cannot_read bytes (inl missing) (inr held) = missing≢told bytes (sym held.0 ∙ missing.1)
   cannot_read bytes (inr failed) (inr held) = held.1 failed.1
 
-  -- a name that has a content is not taken just for want of memory, or for its length
+  -- a name that has a content is not taken only where memory runs out, or for its length
   pub untaken_content : (bytes : List ℕ) (ending : Ending) → TakeFails before after name max long ending → IsContent before after name bytes → (status_of ending ≡ statuses.NoMemory) ⊎ ((ending ≡ endings.Refused long) × (max < length bytes))
   untaken_content bytes endings.Done fails is = absurd fails
   untaken_content bytes endings.Usage fails is = absurd fails

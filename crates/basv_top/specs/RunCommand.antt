@@ -56,7 +56,7 @@ WordsEndRun words input bound before after (Ran end under) =
     (end ≡ end_of (board_run words input bound)) × (under ≡ bound) × WritesRun words input bound before after
 WordsEndRun words input bound before after ending = ⊥
 
--- Why bytes that were taken end a run like this: they are an image whose words ran, or none, or there was no memory.
+-- Why bytes that were taken end a run like this: they are an image whose words ran, or none, or memory ran out.
 abbrev pub BytesEndRun : List ℕ → List ℕ → ℕ → SeenSink → SeenSink → Ending → Type 0
 BytesEndRun bytes input bound before after ending =
     ((words : List ℕ) × AreWords words × ImageOf bytes words × WordsEndRun words input bound before after ending)

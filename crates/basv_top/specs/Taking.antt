@@ -23,7 +23,7 @@ CannotRead before after name =
     ((after.log ≡ NotTaken name take_errors.Missing ∷ before.log) × (before.content name ≡ Some None))
     ⊎ ((after.log ≡ NotTaken name take_errors.Failed ∷ before.log) × Rose before.take_faults after.take_faults)
 
--- Why a command ends whose name could not be taken, where a content of more than so many bytes is refused like this.
+-- Why a command ends whose name could not be taken, where a content of more than this number of bytes is refused like this.
 abbrev pub TakeFails : SeenShelf → SeenShelf → List ℕ → ℕ → Refusal → Ending → Type 0
 TakeFails before after name max too_long Done = ⊥
 TakeFails before after name max too_long Usage = ⊥

@@ -15,11 +15,11 @@ use token_file::FileError;
 /// How a command ended, with what its line on the error output tells.
 #[derive(Clone, Copy)]
 pub enum Ending<'a> {
-    /// It was carried out.
+    /// It succeeded.
     Done,
     /// The words are no command.
     Usage,
-    /// The file is refused, or there was no memory.
+    /// The file is refused, or memory ran out.
     Refused(Refusal),
     /// What has this name could not be taken.
     ReadFault { name: &'a str },
@@ -34,7 +34,7 @@ pub enum Ending<'a> {
 }
 
 impl<'a> Ending<'a> {
-    /// The ending of a command that was carried out or broken off.
+    /// The ending of a command that succeeded or was broken off.
     pub fn of(outcome: Result<(), Ending<'a>>) -> Ending<'a>
         ensures { told result ≡ ended outcome.entry }
     {

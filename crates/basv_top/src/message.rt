@@ -29,7 +29,7 @@ struct Message<'a> {
 }
 
 impl<'a> Message<'a> {
-    /// A text, and a number behind it.
+    /// A text, and a number after it.
     fn numbered(text: &'a [u8], number: &'a str) -> Message<'a>
         ensures { message_text result ≡ text.now ++ number.now }
     {
@@ -236,7 +236,7 @@ fn write_piece<E: Sink>(err: &mut E, piece: &[u8]) -> Result<(), SinkFault>
     err.write(piece)
 }
 
-/// Writes a message as a line, which takes no memory.
+/// Writes a message as a line, which allocates nothing.
 fn write_line<E: Sink>(err: &mut E, message: &Message<'_>) -> Result<(), SinkFault>
     ensures ok { OnOk result (E.written err.new ≡ with_bytes (E.written err.old) (message_text message.now ++ 10 ∷ [])) }
     ensures part { OnErr result (WritesPart (E.written err.old) (message_text message.now ++ 10 ∷ []) (E.written err.new)) }

@@ -2,7 +2,7 @@
 /// The status that the program ends with, by its number.
 #[derive(Clone, Copy, Debug, PartialEq, Eq)]
 pub enum Status {
-    /// The command was carried out.
+    /// The command succeeded.
     Done = 0,
     /// The words are no command.
     Usage = 1,
@@ -22,11 +22,11 @@ pub enum Status {
     Failed = 8,
     /// The run's bound was reached.
     Bound = 9,
-    /// There was no memory.
+    /// Memory ran out.
     NoMemory = 10,
     /// An access or a called routine left what it may use.
     Stray = 11,
-    /// The program asked for input behind the end of its input.
+    /// The program asked for input after the end of its input.
     InputEnded = 12,
     /// The board could not go on.
     Broken = 13,

@@ -58,7 +58,7 @@ pub fn basv<S: Shelf, O: Sink, E: Sink>(
     out: &mut O,
     err: &mut E,
 ) -> Status
-    // The headline stands in `Compiles`: where a compile is done, the file that the shelf gave is accepted as one program,
+    // The headline is in `Compiles`: where a compile is done, the file that the shelf gave is accepted as one program,
     // and the image that it was handed agrees with that program on every input.
     ensures compile { (file image : List ℕ) → command_of (map string_bytes words.now) ≡ Some (IsCompile file image)
         → Compiles (seen_shelf S.Shelf shelf.old) (seen_shelf S.Shelf shelf.new)

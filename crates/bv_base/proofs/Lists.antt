@@ -8,7 +8,7 @@ same_head x y xs ys e = cc
 pub same_tail : {A : Type 0} (x y : A) (xs ys : List A) → x ∷ xs ≡ y ∷ ys → xs ≡ ys
 same_tail x y xs ys e = cc
 
--- two fronts of one length of equal lists are the same, and so is what stands behind them
+-- two fronts of one length of equal lists are the same, and so is what follows them
 pub same_fronts : {A : Type 0} (xs ys rest rest' : List A) → length xs ≡ length ys → xs ++ rest ≡ ys ++ rest' → (xs ≡ ys) × (rest ≡ rest')
 same_fronts [] [] rest rest' e same = (refl, same)
 same_fronts [] (y ∷ ys) rest rest' e same = absurd (omega (arith, e))

@@ -1,4 +1,4 @@
-//! What every crate of `basv` shares: the limits, the memory map, and want of memory. A definition that two crates
+//! What every crate of `basv` shares: the limits, the memory map, and the answer that memory ran out. A definition that two crates
 //! cite and that belongs to neither is at home here.
 #![tactic(auto)]
 

@@ -1,8 +1,8 @@
-//! Want of memory, the one answer that no clause ties to a cause.
+//! Out of memory, the one answer that no clause ties to a cause.
 
 use std::alloc::{AllocError, AllocFailed};
 
-/// There was no memory for an answer.
+/// Out of memory.
 #[derive(Clone, Copy, Debug, PartialEq, Eq)]
 pub struct NoMemory;
 

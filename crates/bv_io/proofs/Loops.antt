@@ -1,4 +1,4 @@
--- A loop that makes a machine's steps, counts them, and writes their bytes to a sink.
+-- A loop that takes a machine's steps, counts them, and writes their bytes to a sink.
 use Rattle.std.proofs.Common.{◌≡◌, ℕ, ◌+◌, ◌-◌, ◌^◌, ◌≤◌, min, Option, Some, None, List, [], ◌++◌, length, take, drop, refl, sym, ap, subst, ◌∙◌, append_assoc, append-nil, take-append-drop, add-one, arith}
 use Rattle.std.proofs.Math.Seq.{take-append-add, take-append_seam}
 use Rattle.bv_run.specs.Outcome.{IsPrefix}
@@ -15,7 +15,7 @@ pub with_bytes-append : (written : Option (List ℕ)) (first more : List ℕ) �
 with_bytes-append None first more = refl
 with_bytes-append (Some written) first more = ap (λ w. Some w) (append_assoc written first more)
 
--- So many steps were made and so many are left, each made one was counted, and the sink was given just what they wrote.
+-- This number of steps was taken and that number is left, each step was counted, and the sink was given just what they wrote.
 -- The count is a `u64`, and stands still at its greatest value.
 pub record IsSoFar {S E : Type 0} (step : S → Turn S E) (old : S) (bound left : ℕ) (now : S) (before written : Option (List ℕ)) (count_before count : ℕ) : Type 0 where
   pub made : ℕ
@@ -38,7 +38,7 @@ so_far_starts step old bound left before count all fits = record {
 one_more : (before made count count' : ℕ) → count ≡ min (before + made) (2 ^ 64 - 1) → count' ≡ counted count → count' ≡ min (before + (made + 1)) (2 ^ 64 - 1)
 one_more before made count count' is next = omega (arith, is, next)
 
--- a first part of a piece, behind what was written before it, is a first part of the whole
+-- a first part of a piece, after what was written before it, is a first part of the whole
 pub part_of_piece : (old written after : Option (List ℕ)) (done piece whole : List ℕ) → written ≡ with_bytes old done → IsPrefix (done ++ piece) whole → WritesPart written piece after → WritesPart old whole after
 part_of_piece old written after done piece whole so prefix part =
     let front = take part.0 piece in
@@ -66,7 +66,7 @@ module _ {S E : Type 0} (step : S → Turn S E) (old now : S) (bound left : ℕ)
   one_counted less turn is_less is =
       ap (λ k. steps_made step k now) (is_less ∙ add-one less) ∙ steps_made-suc step less now ∙ ap (λ t. steps_of_turn t (steps_made step less)) is
 
-  -- where a step goes on, the run stands behind it
+  -- where a step goes on, the run is after it
   step_made : (next : S) (more : List ℕ) → step now ≡ Goes next more → run step (so.made + 1) old [] ≡ Going next (so.bytes ++ more)
   step_made next more goes =
       run-add step so.made 1 old []
@@ -103,7 +103,7 @@ module _ {S E : Type 0} (step : S → Turn S E) (old now : S) (bound left : ℕ)
         counts = one_more count_before so.made count count' so.is_count counts ∙ ap (λ n. min (count_before + n) (2 ^ 64 - 1)) made;
       }
 
-  -- with no steps left the run stands here
+  -- with no steps left the run stops here
   pub so_far_ends : left ≡ 0 → Finishes (Going now) written count
   so_far_ends none =
       let comes : run step bound old [] ≡ Going now so.bytes = goes_on ∙ ap (λ k. run step k now so.bytes) none ∙ run-zero step now so.bytes in

@@ -1,7 +1,7 @@
 -- What a sink says that it was given. This project's own.
 use Rattle.std.specs.Prelude.{◌≡◌, ℕ, List, ◌++◌, take, Option, Some, None}
 
--- what was written, with these bytes behind it, where it is told
+-- what was written, with these bytes after it, where it is told
 abbrev pub with_bytes : Option (List ℕ) → List ℕ → Option (List ℕ)
 with_bytes None bytes = None
 with_bytes (Some written) bytes = Some (written ++ bytes)

@@ -10,7 +10,7 @@ use std::marker::Model;
 use std::rt::Files;
 
 /// The files of the disk, under their paths. It tells nothing of what it holds, and counts a file that is not there as
-/// a fault. What it was asked and answered stands in its log.
+/// a fault. What it was asked and answered is in its log.
 #[derive(Drop)]
 pub struct DiskShelf<R: Files> {
     files: R,

@@ -14,7 +14,7 @@ pub enum TakeError {
     Failed,
     /// The content has more bytes than the caller takes.
     TooLong,
-    /// There was no memory for the content.
+    /// Memory ran out for the content.
     NoMemory,
 }
 
@@ -23,7 +23,7 @@ pub enum TakeError {
 pub enum PutError {
     /// The shelf failed. What it holds under the name is not known.
     Failed,
-    /// There was no memory, and nothing changed.
+    /// Memory ran out, and nothing changed.
     NoMemory,
 }
 

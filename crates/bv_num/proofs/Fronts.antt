@@ -9,7 +9,7 @@ use Rattle.std.proofs.Math.Nat.{le-mul_of_pos_right}
 use Rattle.bv_num.specs.Digits.{is_digit}
 use Rattle.bv_num.specs.Value.{front_digits, front_value}
 
--- the value of the digits that begin a text, behind those with this value, up to a limit
+-- the value of the digits that begin a text, after those with this value, up to a limit
 abbrev pub capped_front : ℕ → ℕ → ℕ → List ℕ → ℕ
 capped_front limit base value rest = min (digits_value_after base value (front_digits base rest)) limit
 

@@ -9,7 +9,7 @@ use Rattle.std.proofs.lemmas.List.Sums.{take_while-cons}
 use Rattle.bv_num.specs.Operation.{too_big, in_range, with_sign}
 use Rattle.bv_num.specs.Bits.{signed}
 use Rattle.bv_num.specs.Digits.{digits, decimal_digits, decimal_text, hex_digits}
-use Rattle.bv_num.specs.Value.{behind_spaces, behind_sign, begins_with, front_digits, front_value, signed_value, value_of, in_word, data_value}
+use Rattle.bv_num.specs.Value.{after_spaces, after_sign, begins_with, front_digits, front_value, signed_value, value_of, in_word, data_value}
 use Rattle.bv_num.proofs.OperationLaws.{in_range-fits}
 use Rattle.bv_num.proofs.Numerals.{digits-each, decimal_digits-each, digits_value-digits}
 
@@ -27,11 +27,11 @@ unfolding front_value
 front_value-digits base n least greatest =
     ap (digits_value base) (all_front base (digits base n) (digits-each base n least greatest)) ∙ digits_value-digits base n least greatest
 
-no_space : (ds : List ℕ) → AllByRecursion (λ b. (48 ≤ b) × (b ≤ 57)) ds → behind_spaces ds ≡ ds
+no_space : (ds : List ℕ) → AllByRecursion (λ b. (48 ≤ b) × (b ≤ 57)) ds → after_spaces ds ≡ ds
 no_space [] each = refl
-no_space (d ∷ ds) each = ap (λ t. if t then behind_spaces ds else d ∷ ds) (ne_eqb d 32 (λ e. omega (arith, each.0.0, e)))
+no_space (d ∷ ds) each = ap (λ t. if t then after_spaces ds else d ∷ ds) (ne_eqb d 32 (λ e. omega (arith, each.0.0, e)))
 
-no_sign : (ds : List ℕ) → AllByRecursion (λ b. (48 ≤ b) × (b ≤ 57)) ds → behind_sign ds ≡ ds
+no_sign : (ds : List ℕ) → AllByRecursion (λ b. (48 ≤ b) × (b ≤ 57)) ds → after_sign ds ≡ ds
 no_sign [] each = refl
 no_sign (d ∷ ds) each = (λ i. if ne_eqb d 43 (λ e. omega (arith, each.0.0, e)) i || ne_eqb d 45 (λ e. omega (arith, each.0.0, e)) i then ds else d ∷ ds)
 

@@ -14,7 +14,7 @@ text_of inside = take inside.len inside.bytes
 abbrev pub placed : List ℕ → Inside
 placed text = record { bytes = text ++ replicate (longest_number - length text) 0; len = length text }
 
--- zeros stand from the text on, and its length is kept
+-- zeros fill the rest from the text on, and its length is kept
 abbrev pub IsPlaced : Inside → Type 0
 IsPlaced inside = ((placed (text_of inside)).bytes ≡ inside.bytes) × ((placed (text_of inside)).len ≡ inside.len)
 

@@ -14,7 +14,7 @@ pub const LONGEST_NUMBER: usize = 11;
 /// The text of a number: its digits, highest first, with a minus sign before them where it is negative.
 #[derive(Clone, Copy, Debug, PartialEq, Eq)]
 pub struct Digits {
-    /// The text stands at the front, and zeros behind it.
+    /// The text is at the front, and zeros follow it.
     pub bytes: [u8; LONGEST_NUMBER],
     /// The number of the text's bytes.
     pub len: u8,
@@ -108,7 +108,7 @@ pub fn decimal(n: i32) -> Digits
     Digits::of_text(with_sign(n).as_slice())
 }
 
-/// The hexadecimal text of a number's 32 bits, in upper case and without leading zeros, which READ reads back behind
+/// The hexadecimal text of a number's 32 bits, in upper case and without leading zeros, which READ reads back after
 /// `&`.
 pub fn hex(n: u32) -> Digits
     ensures value { result ≡ hex_digits n }

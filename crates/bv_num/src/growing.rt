@@ -4,7 +4,7 @@ ghost use Rattle.std.specs.Prelude.{◌≡◌, ◌<◌, ◌∷◌, [], length};
 use crate::digits::LONGEST_NUMBER;
 use std::marker::Model;
 
-/// A text of at most `LONGEST_NUMBER` bytes, which stands at the end of its array.
+/// A text of at most `LONGEST_NUMBER` bytes, which is at the end of its array.
 #[derive(Drop)]
 pub struct GrowingText {
     bytes: [u8; LONGEST_NUMBER],

@@ -1,6 +1,6 @@
 //! The numbers that texts spell.
 ghost use Rattle.std.specs.Prelude.{◌≡◌, ◌≤◌, ◌^◌, min, length};
-ghost use Rattle.bv_num.specs.Value.{behind_spaces, behind_sign, front_digits, front_value, value_of, data_value};
+ghost use Rattle.bv_num.specs.Value.{after_spaces, after_sign, front_digits, front_value, value_of, data_value};
 
 use crate::arithmetic::{TOO_BIG, narrow};
 
@@ -9,7 +9,7 @@ const WORD_VALUES: u64 = 0x1_0000_0000;
 
 /// The text without the spaces that begin it.
 pub fn skip_spaces(text: &[u8]) -> &[u8]
-    ensures { result.now ≡ behind_spaces text.now }
+    ensures { result.now ≡ after_spaces text.now }
 {
     let mut rest = text;
     while let [b' ', after @ ..] = rest {
@@ -46,9 +46,9 @@ pub fn digit_run(base: u32, text: &[u8]) -> DigitRun
     DigitRun { value, count }
 }
 
-/// The text behind the sign that may begin it.
+/// The text after the sign that may begin it.
 fn skip_sign(text: &[u8]) -> &[u8]
-    ensures { result.now ≡ behind_sign text.now }
+    ensures { result.now ≡ after_sign text.now }
 {
     match text {
         [b'+' | b'-', after @ ..] => after,
@@ -56,7 +56,7 @@ fn skip_sign(text: &[u8]) -> &[u8]
     }
 }
 
-/// VAL: the number that a text begins with, behind spaces and at most one sign; 0 where no digit stands there, and
+/// VAL: the number that a text begins with, after spaces and at most one sign; 0 where no digit is there, and
 /// `TOO_BIG` past 32 bits. What follows the digits is ignored.
 pub fn value_of(text: &[u8]) -> Result<i32, u8>
     ensures { result ≡ value_of text.now }
@@ -69,7 +69,7 @@ pub fn value_of(text: &[u8]) -> Result<i32, u8>
     narrow(size)
 }
 
-/// READ's number of an item of DATA: behind `&` the value of the hexadecimal digits of either case, which are 32 bits,
+/// READ's number of an item of DATA: after `&` the value of the hexadecimal digits of either case, which are 32 bits,
 /// and else VAL of the text. `TOO_BIG` where it is greater.
 pub fn data_value(text: &[u8]) -> Result<i32, u8>
     ensures { result ≡ data_value text.now }

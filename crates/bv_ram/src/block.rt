@@ -1,4 +1,4 @@
-//! The block behind a raw pointer, and the right to free it.
+//! The block that a raw pointer points to, and the right to free it.
 ghost use Rattle.std.specs.Prelude.{◌≡◌, ℕ, ◌^◌, ◌<◌, List, [], ◌∷◌, ◌++◌, length, IfSome};
 ghost use Rattle.std.specs.Borrow.{sem};
 ghost use denote.RawPtr.{Ptr};
@@ -36,7 +36,7 @@ impl<A: Allocator> Model for Lease<A> {
 impl Block {
     ghost use Rattle.bv_ram.specs.Lends.{lends_bytes};
 
-    /// A block in which nothing is written, or `None` where there is no memory.
+    /// A block in which nothing is written, or `None` where memory runs out.
     pub(crate) fn allocate<A: Allocator>(alloc: &A, len: usize) -> Option<(Block, Lease<A>)>
         requires { len < 2 ^ 63 }
         ensures { IfSome result (λ r. (r.0.room ≡ len) × (r.0.bytes ≡ []) × (r.1.alloc ≡ alloc.now) × (r.1.start ≡ r.0.start) × (r.1.len ≡ len)) }
@@ -50,7 +50,7 @@ impl Block {
         }
     }
 
-    /// Writes the first byte that is not written yet, which stands at `at`.
+    /// Writes the first byte that is not written yet, which is at `at`.
     pub(crate) fn push(&mut self, at: usize, byte: u8)
         requires { (at ≡ length self.old.bytes) × (at < self.old.room) }
         ensures { (self.new.start ≡ self.old.start) × (self.new.room ≡ self.old.room) × (self.new.bytes ≡ self.old.bytes ++ byte ∷ []) }

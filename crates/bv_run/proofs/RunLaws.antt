@@ -11,7 +11,7 @@ pub run-suc : {S E : Type 0} (step : S → Turn S E) (n : ℕ) (s : S) (out : Li
 unfolding run
 run-suc step n s out = refl
 
--- goes on behind a run
+-- goes on after a run
 abbrev pub and_then : {S E : Type 0} → Progress S E → (S → List ℕ → Progress S E) → Progress S E
 and_then (Going s out) next = next s out
 and_then (Ended s out end) next = Ended s out end
@@ -43,7 +43,7 @@ pub steps_made-suc : {S E : Type 0} (step : S → Turn S E) (n : ℕ) (s : S) �
 unfolding steps_made
 steps_made-suc step n s = refl
 
--- what is counted behind a run: nothing once it has ended
+-- what is counted after a run: nothing once it has ended
 abbrev pub made_after : {S E : Type 0} → Progress S E → (S → ℕ) → ℕ
 made_after (Going s out) rest = rest s
 made_after (Ended s out end) rest = 0
@@ -64,7 +64,7 @@ steps_made-add step (suc m) n s out =
     ∙ steps_of_turn-add (step s) (steps_made step (m + n)) (steps_made step m) (steps_made step n) (run step m) (steps_made-add step m n) out
     ∙ (λ i. sym (steps_made-suc step m s) i + made_after (sym (run-suc step m s out) i) (steps_made step n))
 
--- a run that still goes on has made all of its steps
+-- a run that still goes on has taken all of its steps
 pub all_made : {S E : Type 0} (step : S → Turn S E) (n : ℕ) (s t : S) (out all : List ℕ) → run step n s out ≡ Going t all → steps_made step n s ≡ n
 all_made step zero s t out all goes = steps_made-zero step s
 all_made step (suc n) s t out all goes =
@@ -135,7 +135,7 @@ leads_step step s t bytes is = record {
   goes = run-suc step 0 s [] ∙ ap (λ u. after_turn u (run step 0) []) is ∙ run-zero step t bytes;
 }
 
--- behind a stretch the run goes on
+-- after a stretch the run goes on
 pub leads_run : {S E : Type 0} (step : S → Turn S E) (s t : S) (bytes : List ℕ) (l : Leads step s t bytes) (n : ℕ) (out : List ℕ) → run step (l.steps + n) s out ≡ run step n t (out ++ bytes)
 leads_run step s t bytes l n out =
     run-add step l.steps n s out

@@ -30,7 +30,7 @@ abbrev pub steps_of_turn : {S E : Type 0} → Turn S E → (S → ℕ) → ℕ
 steps_of_turn (Goes state bytes) rest = suc (rest state)
 steps_of_turn (Ends state bytes end) rest = 1
 
--- The number of steps that are made from a state within n: n, or fewer where one of them ends the run.
+-- The number of steps that are taken from a state within n: n, or fewer where one of them ends the run.
 unfoldable pub steps_made : {S E : Type 0} → (S → Turn S E) → ℕ → S → ℕ
 steps_made step zero state = 0
 steps_made step (suc n) state = steps_of_turn (step state) (steps_made step n)

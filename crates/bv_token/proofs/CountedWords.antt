@@ -28,7 +28,7 @@ pub no_word : (text word : List ℕ) (token : ℕ) → length word ≡ 0 → unl
 no_word text [] token none is size b = let no : None ≡ Some b.word = is ∙ b.is_word in absurd (cc)
 no_word text (c ∷ word) token none is size b = omega (arith, none)
 
--- another text stands first
+-- another text comes first
 pub not_first : (text word : List ℕ) (token : ℕ) → length word ≢ 0 → unless_empty word ≡ word_of token → starts_with nat_eq text word ≡ false → (size : ℕ) → BeginsWord text token size → ⊥
 not_first text word token some is other size b =
     let front = same_word text token size word (is_word token word some is) b in

@@ -34,7 +34,7 @@ then_token = 0x8c
 abbrev pub restore_token : ℕ
 restore_token = 0xf7
 
--- the token of ELSE behind an item
+-- the token of ELSE after an item
 abbrev pub else_token : ℕ
 else_token = 0x8b
 

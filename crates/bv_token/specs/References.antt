@@ -1,4 +1,4 @@
--- References to lines, as Acorn's BASIC V writes a line number behind GOTO and its like: the byte 0x8d and three bytes,
+-- References to lines, as Acorn's BASIC V writes a line number after GOTO and its like: the byte 0x8d and three bytes,
 -- all of them from 0x40 to 0x7f, so that a reference holds no byte that could be taken for a line's end.
 use Rattle.std.specs.Prelude.{ℕ, ◌+◌, ◌*◌, ◌/◌, ◌%◌, List, [], ◌∷◌, bit_and, bit_or, bit_xor}
 

@@ -1,4 +1,4 @@
--- The tokens of Acorn's BASIC V and the keywords that they stand for (BBC BASIC Reference Manual, keyword tokens).
+-- The tokens of Acorn's BASIC V and the keywords that they encode (BBC BASIC Reference Manual, keyword tokens).
 use Rattle.std.specs.Prelude.{ℕ, ◌+◌, ◌-◌, Bool, ◌&&◌, ◌==◌, nat_le, nat_lt, List, [], ◌∷◌, length, get_or, Option, Some, None, bytes_eq, codes, if◌then◌else◌}
 
 -- a letter put in front of the first word
@@ -19,7 +19,7 @@ pub record Row : Type 0 where
 abbrev pub row : ℕ → List ℕ → Row
 row from text = record { from = from; words = words text }
 
--- The keywords of single tokens, sixteen to a row. A dash stands where a token has no keyword: 0x8d begins a reference
+-- The keywords of single tokens, sixteen to a row. A dash is written where a token has no keyword: 0x8d begins a reference
 -- to a line, and 0xc6, 0xc7 and 0xc8 begin pairs.
 abbrev pub table : List Row
 table =

@@ -8,7 +8,7 @@ use Rattle.bv_token.specs.Tokens.{words, keyword_of_token, keyword_of_pair, pair
 abbrev pub word_of : ℕ → Option (List ℕ)
 word_of token = if nat_lt token 256 then keyword_of_token token else keyword_of_pair pairs (token / 256) (token % 256)
 
--- the words that count only where no name goes on behind them
+-- the words that count only where no name goes on after them
 abbrev pub closed_words : List (List ℕ)
 closed_words = words (codes "CLS COUNT END ENDCASE ENDIF ENDPROC ENDWHILE ERL ERR FALSE MOVE QUIT REPORT RETURN STOP TRUE")
 

@@ -3,10 +3,10 @@ ghost use Rattle.std.specs.Prelude.{◌≡◌, ◌<◌, ◌≤◌, slice_index};
 ghost use Rattle.std.specs.List.{AllByRecursion};
 ghost use Rattle.bv_token.specs.References.{reference_of, referred};
 
-/// The byte that begins a reference to a line. Three bytes with the line's number stand behind it.
+/// The byte that begins a reference to a line. Three bytes with the line's number follow it.
 pub const LINE_REFERENCE: u8 = 0x8d;
 
-/// The line number of the three bytes behind `LINE_REFERENCE`.
+/// The line number of the three bytes after `LINE_REFERENCE`.
 #[tactic(auto, using(crate::proofs::References::top_of_byte))]
 pub fn line_ref(bytes: [u8; 3]) -> u16
     ensures { result ≡ referred (slice_index bytes 0) (slice_index bytes 1) (slice_index bytes 2) }
@@ -17,7 +17,7 @@ pub fn line_ref(bytes: [u8; 3]) -> u16
     u16::from_be_bytes([high, low])
 }
 
-/// The three bytes behind `LINE_REFERENCE` that refer to this line number. Reading them gives the number again.
+/// The three bytes after `LINE_REFERENCE` that refer to this line number. Reading them gives the number again.
 pub fn write_ref(number: u16) -> [u8; 3]
     ensures bytes { result ≡ reference_of number }
     ensures read_back { referred (slice_index result 0) (slice_index result 1) (slice_index result 2) ≡ number }

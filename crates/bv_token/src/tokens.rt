@@ -3,13 +3,13 @@ ghost use Rattle.std.specs.Prelude.{◌≡◌, [], map, slice_index_or};
 ghost use Rattle.std.specs.Option.{option_map};
 ghost use Rattle.bv_token.specs.Tokens.{begins_pair, keyword_of, keyword_of_pair, keyword_of_token, pairs, unless_empty};
 
-/// The token of OTHERWISE, which stands alone before the others.
+/// The token of OTHERWISE, which is alone before the others.
 pub const OTHERWISE: u8 = 0x7f;
 
-/// The first of the tokens that stand in rows.
+/// The first of the tokens that are in rows.
 pub const FIRST_TOKEN: u8 = 0x80;
 
-/// The token of ELSE behind an item.
+/// The token of ELSE after an item.
 pub const ELSE: u8 = 0x8b;
 
 /// The token of THEN.
@@ -79,7 +79,7 @@ pub fn pair_keyword(first: u8, second: u8) -> &'static str
     }
 }
 
-/// The keyword at a place, or the empty one behind the last.
+/// The keyword at a place, or the empty one after the last.
 fn keyword_at(keywords: &[&'static str], place: u8) -> &'static str
     ensures { result.now ≡ slice_index_or (map (λ keyword. keyword.now) keywords.now) place [] }
 {

@@ -13,10 +13,10 @@ listed-drop (suc taken) quoted (byte ∷ rest) = listed-drop taken quoted rest
 listed-symbol : (byte : ℕ) (after : List ℕ) → listed 0 false (byte ∷ after) ≡ (shown byte after).text ++ listed (shown byte after).taken (byte == 34) after
 listed-symbol byte after = refl
 
--- the symbol at the front of what is left, outside quotation marks, and what is behind it
+-- the symbol at the front of what is left, outside quotation marks, and what is after it
 pub lists_symbol : (byte : ℕ) (after now rest before listing whole : List ℕ) (quoted : Bool) → quoted ≡ false → now ≡ byte ∷ after → listing ≡ before ++ (shown byte after).text → rest ≡ drop (shown byte after).taken after → before ++ listed 0 quoted now ≡ whole → listing ++ listed 0 (byte == 34) rest ≡ whole
-lists_symbol byte after now rest before listing whole quoted outside front written behind so =
-    let left : listed 0 (byte == 34) rest ≡ listed (shown byte after).taken (byte == 34) after = ap (λ r. listed 0 (byte == 34) r) behind ∙ sym (listed-drop (shown byte after).taken (byte == 34) after) in
+lists_symbol byte after now rest before listing whole quoted outside front written rest_is so =
+    let left : listed 0 (byte == 34) rest ≡ listed (shown byte after).taken (byte == 34) after = ap (λ r. listed 0 (byte == 34) r) rest_is ∙ sym (listed-drop (shown byte after).taken (byte == 34) after) in
     ap (λ l. l ++ listed 0 (byte == 34) rest) written ∙ append_assoc before _ _ ∙ ap (λ l. before ++ ((shown byte after).text ++ l)) left ∙ ap (λ l. before ++ l) (sym (listed-symbol byte after) ∙ ap (λ t. listed 0 false t) (sym front) ∙ ap (λ q. listed 0 q now) (sym outside)) ∙ so
 
 -- a line's number has at most five digits

@@ -14,7 +14,7 @@ justified columns text = replicate (columns - length text) 32 ++ text
 abbrev pub hex_byte : ℕ → List ℕ
 hex_byte byte = digit_byte (byte / 16) ∷ digit_byte (byte % 16) ∷ []
 
--- What the symbol at the front of a text lists as, and how many bytes behind its first one belong to it.
+-- What the symbol at the front of a text lists as, and how many bytes after its first one belong to it.
 pub record Shown : Type 0 where
   pub text : List ℕ
   pub taken : ℕ
@@ -40,7 +40,7 @@ shown_pair first (second ∷ rest) =
 abbrev pub shown_byte : ℕ → List ℕ
 shown_byte byte = unwrap_or (keyword_of_token byte) (byte ∷ [])
 
--- the tokens of REM and DATA, behind which all bytes stand as they are
+-- the tokens of REM and DATA, after which all bytes are listed as they are
 abbrev pub begins_tail : ℕ → Bool
 begins_tail byte = (byte == rem_token) || (byte == data_token)
 

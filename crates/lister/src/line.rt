@@ -42,7 +42,7 @@ fn push_text(listing: &mut Vec<u8>, text: &[u8]) -> Result<(), AllocError>
 }
 
 /// The line's listing, ended by a new line: its number in five columns, then its text with the keywords of its tokens.
-/// Bytes that are no token and should be one stand as hexadecimal digits between `<` and `>`.
+/// Bytes that are no token and should be one are listed as hexadecimal digits between `<` and `>`.
 #[tactic(auto, using(crate::proofs::Listed::five_columns))]
 pub fn list_line(alloc: Global, line: &Line) -> Result<Vec<u8>, NoMemory>
     ensures listing { IfOk result (λ bytes. bytes.items ≡ listing line.now) }

@@ -18,7 +18,7 @@ fn hex_byte(byte: u8) -> [u8; 2]
     ]
 }
 
-/// Lists what stands behind the byte `LINE_REFERENCE`, and answers the bytes behind that.
+/// Lists what follows the byte `LINE_REFERENCE`, and answers the bytes after that.
 fn push_reference<'a>(listing: &mut Vec<u8>, after: &'a [u8]) -> Result<&'a [u8], AllocError>
     ensures text { OnOk result (listing.new.items ≡ listing.old.items ++ (shown_reference after.now).text) }
     ensures rest { IfOk result (λ rest. rest.now ≡ drop (shown_reference after.now).taken after.now) }
@@ -36,7 +36,7 @@ fn push_reference<'a>(listing: &mut Vec<u8>, after: &'a [u8]) -> Result<&'a [u8]
     }
 }
 
-/// Lists a pair with this first byte, and answers the bytes behind it.
+/// Lists a pair with this first byte, and answers the bytes after it.
 fn push_pair<'a>(listing: &mut Vec<u8>, first: u8, after: &'a [u8]) -> Result<&'a [u8], AllocError>
     ensures text { OnOk result (listing.new.items ≡ listing.old.items ++ (shown_pair first after.now).text) }
     ensures rest { IfOk result (λ rest. rest.now ≡ drop (shown_pair first after.now).taken after.now) }
@@ -67,7 +67,7 @@ fn push_byte(listing: &mut Vec<u8>, byte: u8) -> Result<(), AllocError>
     }
 }
 
-/// Lists the symbol that begins with this byte outside quotation marks, and answers the bytes behind it.
+/// Lists the symbol that begins with this byte outside quotation marks, and answers the bytes after it.
 pub fn push_symbol<'a>(
     listing: &mut Vec<u8>,
     first: u8,

@@ -9,7 +9,7 @@ use std::io;
 /// The number of bytes in a memory.
 const BYTES: u32 = 0x10_0000;
 
-/// Makes a memory, writes to it and reads from it, and drops it. `None` where there was no memory.
+/// Makes a memory, writes to it and reads from it, and drops it. `None` where memory ran out.
 fn use_memory(alloc: Global, value: u8) -> Option<u8> {
     let mut ram = Ram::new(alloc, BYTES).ok()?;
     ram.fill(0, BYTES, value);

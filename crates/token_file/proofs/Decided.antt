@@ -58,7 +58,7 @@ length_of_record line more xs e = omega (arith, ap length e, length-append (reco
 begins_with_start : (x : ℕ) (xs : List ℕ) → BeginsRecord (x ∷ xs) → x ≡ record_start
 begins_with_start x xs (line, more, is, e) = same_head _ _ _ _ e
 
--- whether a record stands at the front
+-- whether a record is at the front
 decide_front : (xs : List ℕ) → Decided (BeginsRecord xs)
 decide_front [] = inr (λ (line, more, is, e). (let n = length_of_record line more [] e in omega (arith, n)))
 decide_front (x ∷ []) = inr (λ (line, more, is, e). (let n = length_of_record line more (x ∷ []) e in omega (arith, n)))
@@ -97,13 +97,13 @@ one_more_malformed line bytes rest place is e m = record {
 abbrev pub Reading : List ℕ → Type 0
 Reading bytes = ((lines : List Line) × Lines bytes lines) ⊎ ((place : ℕ) × Malformed bytes place)
 
-behind_record : (bytes rest : List ℕ) (line : Line) → IsLine line → bytes ≡ record_of line ++ rest → Reading rest → Reading bytes
-behind_record bytes rest line is e (inl lines) = inl (line ∷ lines.0, (rest, is, e, lines.1))
-behind_record bytes rest line is e (inr m) = inr (length (record_of line) + m.0, one_more_malformed line bytes rest m.0 is e m.1)
+after_record : (bytes rest : List ℕ) (line : Line) → IsLine line → bytes ≡ record_of line ++ rest → Reading rest → Reading bytes
+after_record bytes rest line is e (inl lines) = inl (line ∷ lines.0, (rest, is, e, lines.1))
+after_record bytes rest line is e (inr m) = inr (length (record_of line) + m.0, one_more_malformed line bytes rest m.0 is e m.1)
 
 by_front : (bytes : List ℕ) → ((rest : List ℕ) → length rest < length bytes → Reading rest) → Decided (BeginsRecord bytes) → Decided (BeginsEnd bytes) → Reading bytes
 by_front bytes next (inl (line, rest, is, e)) end =
-    behind_record bytes rest line is e (next rest (omega (arith, ap length e, length-append (record_of line) rest)))
+    after_record bytes rest line is e (next rest (omega (arith, ap length e, length-append (record_of line) rest)))
 by_front bytes next (inr no_record) (inl end) = inl ([], end)
 by_front bytes next (inr no_record) (inr no_end) =
     inr (0, record { lines = []; rest = bytes; each = tt; whole = refl; at = refl; no_record = no_record; no_end = no_end })

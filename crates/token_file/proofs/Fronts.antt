@@ -1,4 +1,4 @@
--- Whether a record stands at the front, by its bytes.
+-- Whether a record is at the front, by its bytes.
 use Rattle.std.proofs.Common.{◌≡◌, ◌≢◌, ◌≤◌, ◌↔◌, IsTrue, not, ℕ, ◌+◌, ◌*◌, ◌/◌, ◌%◌, ◌<◌, Bool, true, false, nat_eq, List, [], ◌∷◌, ◌++◌, length, take, drop, refl, sym, ◌∙◌, arith, take-append-drop, subst, true≢false, ◌||◌, eqb-true, eq-eqb}
 use Rattle.std.specs.List.{AllByRecursion, list_any}
 use Rattle.token_file.specs.declared.line.Line.{Line}
@@ -32,8 +32,8 @@ split_joins n whole front back is_front is_back = sym (take-append-drop n whole)
 pub text_with_start : (high low size count : ℕ) (whole text after : List ℕ) → whole ≡ text ++ after → size ≡ count + head_bytes → length text ≡ count → list_any is_start text ≡ true → BeginsRecord (record_start ∷ high ∷ low ∷ size ∷ whole) → ⊥
 text_with_start high low size count whole text after joined is_size is_count some (line, rest, is, record_is) =
     let e = (λ i. record_start ∷ high ∷ low ∷ size ∷ sym joined i) ∙ record_is in
-    let behind = same_tail _ _ _ _ (same_tail _ _ _ _ (same_tail _ _ _ _ e)) in
-    let fronts = same_fronts text line.text after rest (omega (arith, same_head _ _ _ _ behind, is_size, is_count)) (same_tail _ _ _ _ behind) in
+    let same_rest = same_tail _ _ _ _ (same_tail _ _ _ _ (same_tail _ _ _ _ e)) in
+    let fronts = same_fronts text line.text after rest (omega (arith, same_head _ _ _ _ same_rest, is_size, is_count)) (same_tail _ _ _ _ same_rest) in
     some_start text some (let P : List ℕ → Type 0 = λ t. AllByRecursion (λ b. b ≢ record_start) t in subst P (sym fronts.0) is.text)
 
 -- the bytes of a record

@@ -8,7 +8,7 @@ use Rattle.token_file.specs.Lines.{record_start, end_mark, head_bytes, record_of
 number_from_bytes : (a b : ℕ) → a / 256 ≡ b / 256 → a % 256 ≡ b % 256 → a ≡ b
 number_from_bytes a b high low = omega arith
 
--- no two records stand at one place
+-- no two records are at one place
 pub same_records : (a b : Line) (rest rest' : List ℕ) → record_of a ++ rest ≡ record_of b ++ rest' → (a ≡ b) × (rest ≡ rest')
 same_records a b rest rest' e =
     let at1 = same_tail _ _ _ _ e in

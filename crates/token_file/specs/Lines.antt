@@ -34,15 +34,15 @@ abbrev pub Lines : List ℕ → List Line → Type 0
 Lines bytes [] = (rest : List ℕ) × (bytes ≡ record_start ∷ end_mark ∷ rest)
 Lines bytes (line ∷ lines) = (rest : List ℕ) × IsLine line × (bytes ≡ record_of line ++ rest) × Lines rest lines
 
--- a whole record stands at the front
+-- a whole record is at the front
 abbrev pub BeginsRecord : List ℕ → Type 0
 BeginsRecord bytes = (line : Line) × (rest : List ℕ) × IsLine line × (bytes ≡ record_of line ++ rest)
 
--- the end of the program stands at the front
+-- the end of the program is at the front
 abbrev pub BeginsEnd : List ℕ → Type 0
 BeginsEnd bytes = (rest : List ℕ) × (bytes ≡ record_start ∷ end_mark ∷ rest)
 
--- Whole records fill the bytes up to a place, and neither a whole record nor the end stands there.
+-- Whole records fill the bytes up to a place, and neither a whole record nor the end is there.
 pub record Malformed (bytes : List ℕ) (place : ℕ) : Type 0 where
   pub lines : List Line
   pub rest : List ℕ

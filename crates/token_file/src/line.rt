@@ -5,7 +5,7 @@ use sqlite_items::Items;
 /// The byte that begins each record, and the program's end. No text has it.
 pub const RECORD_START: u8 = 13;
 
-/// The byte that stands behind `RECORD_START` at the program's end. It is no line number's high byte.
+/// The byte that follows `RECORD_START` at the program's end. It is no line number's high byte.
 pub const END_MARK: u8 = 0xff;
 
 /// The number of bytes before a record's text: `RECORD_START`, two of the line's number, and one of the record's

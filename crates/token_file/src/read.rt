@@ -11,10 +11,10 @@ use thiserror::Error;
 /// Why a file has no lines.
 #[derive(Debug, Drop, Error)]
 pub enum FileError {
-    /// Whole records fill the bytes before `at`, an offset in bytes, and there stands neither a record nor the end.
+    /// Whole records fill the bytes before `at`, an offset in bytes, and neither a record nor the end is there.
     #[error("Malformed")]
     Malformed { at: u32 },
-    /// There was no memory for the lines.
+    /// Memory ran out for the lines.
     #[error("NoMemory")]
     NoMemory,
 }
@@ -41,9 +41,9 @@ impl<T: Drop> From<AllocFailed<T>> for FileError {
     }
 }
 
-/// What stands at the front of a part of a file.
+/// What is at the front of a part of a file.
 enum Front<'a> {
-    /// A whole record, and the bytes behind it.
+    /// A whole record, and the bytes after it.
     Record {
         number: u16,
         text: &'a [u8],

@@ -17,7 +17,7 @@ fn push_record(bytes: &mut Vec<u8>, line: &Line) -> Result<(), AllocError>
 }
 
 /// The file of these lines, each of which has a number and a text that a record can hold. Reading it gives the same
-/// lines, and nothing stands after its end.
+/// lines, and nothing follows its end.
 pub fn write_file(alloc: Global, lines: &[Line]) -> Result<Vec<u8>, NoMemory>
     requires { All IsLine lines.now }
     ensures exact { IfOk result (λ bytes. bytes.items ≡ file_of lines.now) }

@@ -11,4 +11,4 @@ returns-in_ok-extend_from_slice-in-Tailed-clause-ok c =
 
 pub returns-in_ok-push-in-Symbol-clause-ok : goal.returns-in_ok-push-in-Symbol-clause-ok
 returns-in_ok-push-in-Symbol-clause-ok c =
-    takes_symbol _ _ _ _ _ _ c.in-Symbol.front _ _ c.in-Symbol.ensures.0 c.in-Symbol.ensures.1 (take_rest c.args.text.now c.in-Symbol.front.size) c.behind_symbol.ensures c.symbol_at.ensures c.in_ok-push-in-Symbol.ensures.items
+    takes_symbol _ _ _ _ _ _ c.in-Symbol.front _ _ c.in-Symbol.ensures.0 c.in-Symbol.ensures.1 (take_rest c.args.text.now c.in-Symbol.front.size) c.mode_after_symbol.ensures c.symbol_at.ensures c.in_ok-push-in-Symbol.ensures.items

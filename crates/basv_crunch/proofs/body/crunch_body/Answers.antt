@@ -19,7 +19,7 @@ parts-smaller c =
 
 pub parts-preserved : goal.parts-preserved
 parts-preserved c =
-    so_far_next c.args.body.now c.parts.place c.behind_part-place.result c.parts.rest.now c.split_at.result.1.now c.split_at.result.0.now c.parts.tokens.items c.push_part.new.tokens.items c.in-Some.part (not_nil _ _ c.is_empty.ensures c.parts-test.true) c.in-Some.ensures c.split_at.ensures.front c.split_at.ensures.back c.in_ok-push_part.ensures c.behind_part-place.ensures c.parts.invariant
+    so_far_next c.args.body.now c.parts.place c.after_part-place.result c.parts.rest.now c.split_at.result.1.now c.split_at.result.0.now c.parts.tokens.items c.push_part.new.tokens.items c.in-Some.part (not_nil _ _ c.is_empty.ensures c.parts-test.true) c.in-Some.ensures c.split_at.ensures.front c.split_at.ensures.back c.in_ok-push_part.ensures c.after_part-place.ensures c.parts.invariant
 
 pub returns : goal.returns
 returns c = so_far_done c.args.body.now c.parts.place c.parts.rest.now c.parts.tokens.items (is_nil _ _ c.is_empty.ensures c.parts-test.false) c.parts.invariant

@@ -9,8 +9,8 @@ returns-then-size-text-clause-pieces c = one_piece c.args.text.now c.line_size-s
 
 pub returns-clause-pieces : goal.returns-clause-pieces
 returns-clause-pieces c =
-    cut_piece c.args.text.now c.split_at.result.0.now c.split_at.result.1.now c.without_return.result.now c.behind.result.now c.line_size-size.result c.line_size-size.ensures c.if-size-text.false c.split_at.ensures.front c.split_at.ensures.back c.without_return.ensures c.behind.ensures
+    cut_piece c.args.text.now c.split_at.result.0.now c.split_at.result.1.now c.without_return.result.now c.text_after.result.now c.line_size-size.result c.line_size-size.ensures c.if-size-text.false c.split_at.ensures.front c.split_at.ensures.back c.without_return.ensures c.text_after.ensures
 
 pub returns-clause-shorter : goal.returns-clause-shorter
 returns-clause-shorter c =
-    omega (arith, row_within in_line c.args.text.now, c.line_size-size.ensures, c.if-size-text.false, c.split_at.ensures.front_len, c.split_at.ensures.back_len, without_return-le c.split_at.result.0.now, ap length c.without_return.ensures, ap length c.behind.ensures, length-drop {A = ℕ} 1 c.split_at.result.1.now)
+    omega (arith, row_within in_line c.args.text.now, c.line_size-size.ensures, c.if-size-text.false, c.split_at.ensures.front_len, c.split_at.ensures.back_len, without_return-le c.split_at.result.0.now, ap length c.without_return.ensures, ap length c.text_after.ensures, length-drop {A = ℕ} 1 c.split_at.result.1.now)

@@ -46,7 +46,7 @@ abbrev stayed : Stays f.ended.signature.params f.ended.kept
 stayed = (stay_dropped (mut_ref_to (0 ∷ []) tt (plain (λ _. R))) no, (stay_dropped (plain (λ _. usize)) yes, tt))
 
 module _ {M : Type 1} {𝓤 : Ura M} (𝓛 : Logic 𝓤) (h : R.Denot) (us : List Val) (b o b' o' : ℕ) where
-  -- the block but for its bytes: the room behind them, the pointer, and the struct's cell
+  -- the block but for its bytes: the room after them, the pointer, and the struct's cell
   abbrev Rest : Fml
   Rest = fsep (froom (bytes_type (h.room - length h.bytes)) b' (o' + length h.bytes)) (fsep (Fields.own_val (h.start, tt) us) (cell_at full_share R.mir us b o))
 

@@ -56,7 +56,7 @@ free_spec 𝓤 𝓛 𝓜 𝓡 wired A L g d dd met md =
     move ! (1 ∷ []) $ split ! $ heard ! (z.0.0.1.0 ⊑ A.lives) (λ le. heard ! Asked (λ asked. split ! $ move ! (1 ∷ []) $
     fsplit3 ! $ fsplit ! $ drop ! $ in_a_block ! x.start (λ p. block_owns p x.room bs) (id⊢ 𝓤 (never 𝓤)) (λ b o at.
     fsplit ! $ fsplit ! $ flt_l ! (λ small. flt_l ! (λ within. fsplit ! $
-    -- [the bytes; the room behind them; the lease; ..]
+    -- [the bytes; the room after them; the lease; ..]
     use1 𝓛 (‵ (froom (bytes_type (length bs)) b o)) (bytes-room 𝓛 bs b o) $ move ! (1 ∷ []) $
     rewrite ! 0 (λ (i : ℕ). ‵ (froom (bytes_type (x.room - length bs)) b i)) (sym (past_bytes (length bs) o)) refl $ move ! (1 ∷ 0 ∷ []) $
     use2 𝓛 (‵ (froom (bytes_type (length bs + (x.room - length bs))) b o)) (room_glue 𝓛 (ty_int w8) (length bs) (x.room - length bs) b o) $
