@@ -42,55 +42,73 @@ fn makes(alloc: Global, body: &[u8], tokens: &[u8]) -> Result<bool, AllocError> 
 }
 
 #[rattlefmt::skip]
+/// Bodies of lines, and their tokens.
+const BODIES: [(&[u8], &[u8]); 21] = [
+    (b" PRINT 5", b" \xf1 5"),
+    (b"GOTO 10", b"\xe5 \x8dTJ@"),
+    (b"GOTO10", b"\xe5\x8dTJ@"),
+    (b"MOVEQ R0,R1", b"MOVEQ R0,R1"),
+    (b"GOTO 010", b"\xe5 010"),
+    (b"GOTO 0", b"\xe5 \x8dT@@"),
+    (b"GOTO 65279:GOTO 65280", b"\xe5 \x8d\x68\x7f\x7e:\xe5 65280"),
+    (b"ON A% GOTO 10 ,20, 10", b"\xee A% \xe5 \x8dTJ@ ,\x8dTT@, \x8dTJ@"),
+    (b"IF A% THEN 10 ELSE20", b"\xe7 A% \x8c \x8dTJ@ \x8b\x8dTT@"),
+    (b"RESTORE10:GOSUB 10:10", b"\xf7\x8dTJ@:\xe4 \x8dTJ@:10"),
+    (b"GOTO 10 20", b"\xe5 \x8dTJ@ 20"),
+    (b"  ELSE 10", b"  \xcc 10"),
+    (b":ELSE 10", b":\x8b \x8dTJ@"),
+    (b"PROCPRINT(FNEND):FN X%", b"\xf2PRINT(\xa4END):\xa4 X%"),
+    (b"PRINT\"END\xe5\"END", b"\xf1\"END\xe5\"\xe0"),
+    (b"PRINT\"END", b"\xf1\"END"),
+    (b"REM END \"\xff", b"\xf4 END \"\xff"),
+    (b"DATAEND,10", b"\xdcEND,10"),
+    (b"A=&ENDPI:a_END=SUM", b"A=&ENDPI:a_END=\xc6\x8e"),
+    (b"ENDs:END%:ENDPROCs", b"ENDs:\xe0%:ENDPROCs"),
+    (b"PRINTs", b"\xf1s"),
+];
+
 #[test]
 fn bodies_are_tokenised(rt: HostRuntime) -> Result<(), Fail> {
-    let alloc = rt.alloc();
-    assert!(rt; makes(alloc, b" PRINT 5", b" \xf1 5")?);
-    assert!(rt; makes(alloc, b"GOTO 10", b"\xe5 \x8dTJ@")?);
-    assert!(rt; makes(alloc, b"GOTO10", b"\xe5\x8dTJ@")?);
-    assert!(rt; makes(alloc, b"MOVEQ R0,R1", b"MOVEQ R0,R1")?);
-    assert!(rt; makes(alloc, b"GOTO 010", b"\xe5 010")?);
-    assert!(rt; makes(alloc, b"GOTO 0", b"\xe5 \x8dT@@")?);
-    assert!(rt; makes(alloc, b"GOTO 65279:GOTO 65280", b"\xe5 \x8d\x68\x7f\x7e:\xe5 65280")?);
-    assert!(rt; makes(alloc, b"ON A% GOTO 10 ,20, 10", b"\xee A% \xe5 \x8dTJ@ ,\x8dTT@, \x8dTJ@")?);
-    assert!(rt; makes(alloc, b"IF A% THEN 10 ELSE20", b"\xe7 A% \x8c \x8dTJ@ \x8b\x8dTT@")?);
-    assert!(rt; makes(alloc, b"RESTORE10:GOSUB 10:10", b"\xf7\x8dTJ@:\xe4 \x8dTJ@:10")?);
-    assert!(rt; makes(alloc, b"GOTO 10 20", b"\xe5 \x8dTJ@ 20")?);
-    assert!(rt; makes(alloc, b"  ELSE 10", b"  \xcc 10")?);
-    assert!(rt; makes(alloc, b":ELSE 10", b":\x8b \x8dTJ@")?);
-    assert!(rt; makes(alloc, b"PROCPRINT(FNEND):FN X%", b"\xf2PRINT(\xa4END):\xa4 X%")?);
-    assert!(rt; makes(alloc, b"PRINT\"END\xe5\"END", b"\xf1\"END\xe5\"\xe0")?);
-    assert!(rt; makes(alloc, b"PRINT\"END", b"\xf1\"END")?);
-    assert!(rt; makes(alloc, b"REM END \"\xff", b"\xf4 END \"\xff")?);
-    assert!(rt; makes(alloc, b"DATAEND,10", b"\xdcEND,10")?);
-    assert!(rt; makes(alloc, b"A=&ENDPI:a_END=SUM", b"A=&ENDPI:a_END=\xc6\x8e")?);
-    assert!(rt; makes(alloc, b"ENDs:END%:ENDPROCs", b"ENDs:\xe0%:ENDPROCs")?);
-    assert!(rt; makes(alloc, b"PRINTs", b"\xf1s")?);
+    for (body, tokens) in BODIES {
+        assert!(rt; makes(rt.alloc(), body, tokens)?, "{body:?}");
+    }
     Ok(())
 }
+
+/// Texts of the same two lines.
+const ALIKE: [&[u8]; 3] = [
+    b"10END\n20\n",
+    b"10END\r\n20\r\n",
+    b"\n  \n  10END\n\r\n00020",
+];
+
+/// Texts, and the piece for which each is refused, or 0.
+const BAD_TEXTS: [(&[u8], u32); 12] = [
+    (b"", 0),
+    (b"PRINT 1", 1),
+    (b"10\n\n  \nPRINT 1", 4),
+    (b"10END\r", 1),
+    (b"10\r\r\n", 1),
+    (b"10\x7f", 1),
+    (b"10\"\x7f", 1),
+    (b"10\xe5", 1),
+    (b"10A\tB", 1),
+    (b"65280A", 1),
+    (b"100000A", 1),
+    (b"065279A", 0),
+];
 
 #[test]
 fn texts_are_cut(rt: HostRuntime) -> Result<(), Fail> {
     let alloc = rt.alloc();
     let want = b"\x0d\x00\x0a\x05\xe0\x0d\x00\x14\x04\x0d\xff".as_slice();
-    assert_eq!(rt; file_of(alloc, b"10END\n20\n").as_slice(), want);
-    assert_eq!(rt; file_of(alloc, b"10END\r\n20\r\n").as_slice(), want);
-    assert_eq!(rt;
-        file_of(alloc, b"\n  \n  10END\n\r\n00020").as_slice(),
-        want
-    );
+    for text in ALIKE {
+        assert_eq!(rt; file_of(alloc, text).as_slice(), want, "{text:?}");
+    }
+    for (text, piece) in BAD_TEXTS {
+        assert_eq!(rt; bad_piece(alloc, text), piece, "{text:?}");
+    }
     assert_eq!(rt; file_of(alloc, b"").as_slice(), b"\x0d\xff".as_slice());
-    assert_eq!(rt; bad_piece(alloc, b"PRINT 1"), 1);
-    assert_eq!(rt; bad_piece(alloc, b"10\n\n  \nPRINT 1"), 4);
-    assert_eq!(rt; bad_piece(alloc, b"10END\r"), 1);
-    assert_eq!(rt; bad_piece(alloc, b"10\r\r\n"), 1);
-    assert_eq!(rt; bad_piece(alloc, b"10\x7f"), 1);
-    assert_eq!(rt; bad_piece(alloc, b"10\"\x7f"), 1);
-    assert_eq!(rt; bad_piece(alloc, b"10\xe5"), 1);
-    assert_eq!(rt; bad_piece(alloc, b"10A\tB"), 1);
-    assert_eq!(rt; bad_piece(alloc, b"65280A"), 1);
-    assert_eq!(rt; bad_piece(alloc, b"100000A"), 1);
-    assert_eq!(rt; bad_piece(alloc, b"065279A"), 0);
     Ok(())
 }
 

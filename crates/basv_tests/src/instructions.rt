@@ -3,27 +3,34 @@
 use arm_isa::{Class, Instr, class_of, decode, encode, immediate};
 
 #[test]
-fn decodes_a_move(rt: HostRuntime) {
-    let expected = Instr::Data {
-        cond: 14,
-        imm: false,
-        op: 13,
-        s: false,
-        rn: 0,
-        rd: 15,
-        op2: 0x00e,
-    };
-    assert_eq!(rt; decode(0xe1a0_f00e), expected);
-}
-
-#[test]
-fn decodes_a_backward_branch(rt: HostRuntime) {
-    let expected = Instr::Branch {
-        cond: 14,
-        link: true,
-        words: -2,
-    };
-    assert_eq!(rt; decode(0xebff_fffe), expected);
+fn words_are_decoded(rt: HostRuntime) {
+    let table = [
+        // MOV PC,R14.
+        (
+            0xe1a0_f00e,
+            Instr::Data {
+                cond: 14,
+                imm: false,
+                op: 13,
+                s: false,
+                rn: 0,
+                rd: 15,
+                op2: 0x00e,
+            },
+        ),
+        // BL to itself.
+        (
+            0xebff_fffe,
+            Instr::Branch {
+                cond: 14,
+                link: true,
+                words: -2,
+            },
+        ),
+    ];
+    for (word, expected) in table {
+        assert_eq!(rt; decode(word), expected, "at {word}");
+    }
 }
 
 #[test]

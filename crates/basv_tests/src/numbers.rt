@@ -55,18 +55,11 @@ const ARITHMETIC: [(Call, i32, i32, Result<i32, u8>); 22] = [
     (Call::Abs, 2147483647, 0, Ok(2147483647)),
 ];
 
-fn answers_all() -> bool {
-    for (call, a, b, wanted) in ARITHMETIC {
-        if answer(call, a, b) != wanted {
-            return false;
-        }
-    }
-    true
-}
-
 #[test]
 fn computes(rt: HostRuntime) {
-    assert!(rt; answers_all());
+    for (call, a, b, wanted) in ARITHMETIC {
+        assert_eq!(rt; answer(call, a, b), wanted, "{call:?} {a} {b}");
+    }
 }
 
 /// Pairs of numbers with their AND, OR and EOR, and with `=`, `<>`, `<`, `>`, `<=` and `>=` of them.
@@ -83,26 +76,30 @@ const BITS_AND_COMPARISONS: [(i32, i32, [i32; 3], [i32; 6]); 5] = [
     ),
 ];
 
-fn bits_and_comparisons_all() -> bool {
-    for (a, b, bits, comparisons) in BITS_AND_COMPARISONS {
-        let compared = [
-            equal(a, b),
-            not_equal(a, b),
-            less(a, b),
-            greater(a, b),
-            less_or_equal(a, b),
-            greater_or_equal(a, b),
-        ];
-        if [and(a, b), or(a, b), eor(a, b)] != bits || compared != comparisons {
-            return false;
-        }
-    }
-    not(0) == -1 && not(-2147483648) == 2147483647 && not(5) == -6
+/// Numbers and their NOT.
+const COMPLEMENTS: [(i32, i32); 3] = [(0, -1), (-2147483648, 2147483647), (5, -6)];
+
+/// `=`, `<>`, `<`, `>`, `<=` and `>=` of two numbers.
+fn compared(a: i32, b: i32) -> [i32; 6] {
+    [
+        equal(a, b),
+        not_equal(a, b),
+        less(a, b),
+        greater(a, b),
+        less_or_equal(a, b),
+        greater_or_equal(a, b),
+    ]
 }
 
 #[test]
 fn bits_and_comparisons(rt: HostRuntime) {
-    assert!(rt; bits_and_comparisons_all());
+    for (a, b, bits, comparisons) in BITS_AND_COMPARISONS {
+        assert_eq!(rt; [and(a, b), or(a, b), eor(a, b)], bits, "{a} {b}");
+        assert_eq!(rt; compared(a, b), comparisons, "{a} {b}");
+    }
+    for (a, complement) in COMPLEMENTS {
+        assert_eq!(rt; not(a), complement, "{a}");
+    }
 }
 
 const SHIFTS: [(ShiftKind, i32, i32, i32); 16] = [
@@ -124,50 +121,37 @@ const SHIFTS: [(ShiftKind, i32, i32, i32); 16] = [
     (ShiftKind::RightLogical, -1, 32, 0),
 ];
 
-fn shifts_all() -> bool {
-    for (kind, a, b, wanted) in SHIFTS {
-        if shift(kind, a, b) != wanted {
-            return false;
-        }
-    }
-    true
-}
-
 #[test]
 fn shifts(rt: HostRuntime) {
-    assert!(rt; shifts_all());
+    for (kind, a, b, wanted) in SHIFTS {
+        assert_eq!(rt; shift(kind, a, b), wanted, "{kind:?} {a} {b}");
+    }
 }
 
-fn is_decimal(n: i32, wanted: &[u8]) -> bool {
-    decimal(n).as_slice() == wanted
-}
-
-/// The text stands at the front of a number's digits, and zeros behind it.
+/// The text is at the front of a number's digits, and zeros follow it.
 fn has_its_text_in_front() -> bool {
     let digits = decimal(-70);
     digits.bytes == [b'-', b'7', b'0', 0, 0, 0, 0, 0, 0, 0, 0] && digits.len == 3
 }
 
-fn is_hex(n: u32, wanted: &[u8]) -> bool {
-    hex(n).as_slice() == wanted
-}
+const DECIMAL: [(i32, &[u8]); 5] = [
+    (0, b"0"),
+    (-7, b"-7"),
+    (100, b"100"),
+    (2147483647, b"2147483647"),
+    (-2147483648, b"-2147483648"),
+];
 
-fn writes_decimal() -> bool {
-    is_decimal(0, b"0")
-        && is_decimal(-7, b"-7")
-        && is_decimal(100, b"100")
-        && is_decimal(2147483647, b"2147483647")
-        && is_decimal(-2147483648, b"-2147483648")
-}
-
-fn writes_hex() -> bool {
-    is_hex(0, b"0") && is_hex(0xa, b"A") && is_hex(0xffff_ffff, b"FFFFFFFF")
-}
+const HEXADECIMAL: [(u32, &[u8]); 3] = [(0, b"0"), (0xa, b"A"), (0xffff_ffff, b"FFFFFFFF")];
 
 #[test]
 fn writes(rt: HostRuntime) {
-    assert!(rt; writes_decimal());
-    assert!(rt; writes_hex());
+    for (number, text) in DECIMAL {
+        assert_eq!(rt; decimal(number).as_slice(), text, "{number}");
+    }
+    for (number, text) in HEXADECIMAL {
+        assert_eq!(rt; hex(number).as_slice(), text, "{number:x}");
+    }
     assert!(rt; has_its_text_in_front());
 }
 
@@ -190,15 +174,6 @@ const TEXTS: [(&[u8], Result<i32, u8>, Result<i32, u8>); 16] = [
     (b" &1", Ok(0), Ok(0)),
 ];
 
-fn reads_all() -> bool {
-    for (text, value, item) in TEXTS {
-        if value_of(text) != value || data_value(text) != item {
-            return false;
-        }
-    }
-    true
-}
-
 /// 300 zeros and a 7, and 1,000 nines.
 fn reads_long_texts() -> bool {
     let mut text = [b'0'; 301];
@@ -206,22 +181,32 @@ fn reads_long_texts() -> bool {
     value_of(&text) == Ok(7) && value_of(&[b'9'; 1000]) == Err(20)
 }
 
-/// All the digits of a base that stand first are counted, and a value past 32 bits is 2^32.
-fn counts_digits() -> bool {
-    let short = digit_run(10, b"0065279:9");
-    let long = digit_run(16, b"100000000fG");
-    let none = digit_run(2, b"2");
-    short.value == 65279
-        && short.count == 7
-        && long.value == 4294967296
-        && long.count == 10
-        && none.value == 0
-        && none.count == 0
+#[rattlefmt::skip]
+/// A base and a text, the number of its first digits and their value. All of them are counted, and a value past 32 bits is
+/// 2^32.
+const RUNS: [(u32, &[u8], usize, u64); 3] = [
+    (10, b"0065279:9", 7, 65279),
+    (16, b"100000000fG", 10, 4294967296),
+    (2, b"2", 0, 0),
+];
+
+/// The number of the first digits of a text and their value.
+fn run_of(base: u32, text: &[u8]) -> Option<(usize, u64)> {
+    if !(2..=36).contains(&base) {
+        return None;
+    }
+    let run = digit_run(base, text);
+    Some((run.count, run.value))
 }
 
 #[test]
 fn reads(rt: HostRuntime) {
-    assert!(rt; reads_all());
+    for (text, value, item) in TEXTS {
+        assert_eq!(rt; value_of(text), value, "{text:?}");
+        assert_eq!(rt; data_value(text), item, "{text:?}");
+    }
+    for (base, text, count, value) in RUNS {
+        assert_eq!(rt; run_of(base, text), Some((count, value)), "{text:?}");
+    }
     assert!(rt; reads_long_texts());
-    assert!(rt; counts_digits());
 }

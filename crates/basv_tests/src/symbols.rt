@@ -1,5 +1,6 @@
 //! Texts and their symbols, by hand from the rules of the language.
 
+use bas_lex::SymKind::{Call, Label, LineRef, Mark, Name, Number, Tail, Text, Token};
 use bas_lex::sign_numbers::{
     CLOSE_SQUARE, COLON, COMMA, DOLLAR, EQUALS, GREATER, GREATER_OR_EQUAL, LESS, LESS_OR_EQUAL,
     MINUS_EQUALS, NOT_EQUAL, OPEN_ROUND, OPEN_SQUARE, PLUS, PLUS_EQUALS, SEMICOLON, SHIFT_LEFT,
@@ -10,14 +11,37 @@ use bv_token::REM;
 use std::alloc::Global;
 use std::test::Fail;
 
+/// A symbol's kind, the places of its first byte and of the byte after its last, and whether it is in the assembler.
+type Row = (SymKind, u8, u8, bool);
+
+fn are_rows(list: &[Sym], rows: &[Row]) -> bool {
+    if list.len() != rows.len() {
+        return false;
+    }
+    for (symbol, row) in list.iter().zip(rows.iter()) {
+        let (kind, from, to, asm) = *row;
+        if *symbol
+            != (Sym {
+                kind,
+                from,
+                to,
+                asm,
+            })
+        {
+            return false;
+        }
+    }
+    true
+}
+
 /// Whether the text, which begins with the assembler off or on, has these symbols and no others, and the assembler is
-/// off or on behind it.
-fn cuts(alloc: Global, text: &[u8], asm: bool, want: &[Sym], asm_after: bool) -> bool {
+/// off or on after it.
+fn cuts(alloc: Global, text: &[u8], asm: bool, rows: &[Row], asm_after: bool) -> bool {
     if text.len() > 251 {
         return false;
     }
     match symbols(alloc, text, asm) {
-        Ok(run) => run.asm_after == asm_after && run.list.as_slice() == want,
+        Ok(run) => run.asm_after == asm_after && are_rows(run.list.as_slice(), rows),
         Err(_) => false,
     }
 }
@@ -33,80 +57,67 @@ fn is_bad(alloc: Global, text: &[u8], asm: bool, place: u8) -> bool {
     }
 }
 
-/// A symbol outside the assembler.
-fn off(kind: SymKind, from: u8, to: u8) -> Sym {
-    Sym {
-        kind,
-        from,
-        to,
-        asm: false,
-    }
-}
-
-/// A symbol in the assembler.
-fn on(kind: SymKind, from: u8, to: u8) -> Sym {
-    Sym {
-        kind,
-        from,
-        to,
-        asm: true,
-    }
-}
-
-fn name(suffix: u8, bracket: bool) -> SymKind {
-    SymKind::Name { suffix, bracket }
-}
-
-fn call(function: bool, bracket: bool) -> SymKind {
-    SymKind::Call { function, bracket }
-}
-
 #[rattlefmt::skip]
+/// Texts, whether the assembler is on before them, their symbols, and whether it is on after them.
+const TEXTS: [(&[u8], bool, &[Row], bool); 20] = [
+    (b"  ", false, &[], false),
+    (b"%12 2147483647 007", false, &[(Number(1), 0, 2, false), (Number(2), 2, 3, false), (Number(2147483647), 4, 14, false), (Number(7), 15, 18, false)], false),
+    (b"&FfG&FFFFFFFF&0080000000", false, &[(Number(255), 0, 3, false), (Name { suffix: NO_SUFFIX, bracket: false }, 3, 4, false), (Number(-1), 4, 13, false), (Number(-2147483648), 13, 24, false)], false),
+    (b"%11111111111111111111111111111110", false, &[(Number(-2), 0, 33, false)], false),
+    (b"\"\"1\"a\"\"b\"", false, &[(Text, 0, 2, false), (Number(1), 2, 3, false), (Text, 3, 9, false)], false),
+    (b"x_1`%(A$(b@%(", false, &[(Name { suffix: b'%', bracket: true }, 0, 6, false), (Name { suffix: b'$', bracket: true }, 6, 9, false), (Name { suffix: NO_SUFFIX, bracket: false }, 9, 10, false), (Name { suffix: b'%', bracket: false }, 10, 12, false), (Mark(OPEN_ROUND), 12, 13, false)], false),
+    (b"\xa41x$(\xf2_\xa4 a%$", false, &[(Call { function: true, bracket: true }, 0, 5, false), (Call { function: false, bracket: false }, 5, 7, false), (Token(0xa4), 7, 8, false), (Name { suffix: b'%', bracket: false }, 9, 11, false), (Mark(DOLLAR), 11, 12, false)], false),
+    (b"\x7f\xcc\xc8\x98\xe5\x8dTJ@,", false, &[(Token(0x7f), 0, 1, false), (Token(0xcc), 1, 2, false), (Token(0xc898), 2, 4, false), (Token(0xe5), 4, 5, false), (LineRef(10), 5, 9, false), (Mark(COMMA), 9, 10, false)], false),
+    (b":\xdc", false, &[(Mark(COLON), 0, 1, false), (Token(0xdc), 1, 2, false), (Tail, 2, 2, false)], false),
+    (b">>>>= <> <<+=-=+ =>>", false, &[(Mark(SHIFT_RIGHT_LOGICAL), 0, 3, false), (Mark(GREATER_OR_EQUAL), 3, 5, false), (Mark(NOT_EQUAL), 6, 8, false), (Mark(SHIFT_LEFT), 9, 11, false), (Mark(PLUS_EQUALS), 11, 13, false), (Mark(MINUS_EQUALS), 13, 15, false), (Mark(PLUS), 15, 16, false), (Mark(EQUALS), 17, 18, false), (Mark(SHIFT_RIGHT), 18, 20, false)], false),
+    (b"><=<\xf4 \"a", false, &[(Mark(GREATER), 0, 1, false), (Mark(LESS_OR_EQUAL), 1, 3, false), (Mark(LESS), 3, 4, false), (Token(0xf4), 4, 5, false), (Tail, 5, 8, false)], false),
+    (b".loop$.a%(.@%", true, &[(Label, 0, 5, true), (Mark(DOLLAR), 5, 6, true), (Label, 6, 9, true), (Mark(OPEN_ROUND), 9, 10, true), (Label, 10, 13, true)], true),
+    (b"a;b:]", true, &[(Name { suffix: NO_SUFFIX, bracket: false }, 0, 1, true)], true),
+    (b"\\:]", true, &[], true),
+    (b"\xf4:]", true, &[], true),
+    (b"\xdc;", true, &[(Token(0xdc), 0, 1, true), (Tail, 1, 2, true)], true),
+    (b"a: ];", true, &[(Name { suffix: NO_SUFFIX, bracket: false }, 0, 1, true), (Mark(COLON), 1, 2, true), (Mark(CLOSE_SQUARE), 3, 4, false), (Mark(SEMICOLON), 4, 5, false)], false),
+    (b"[ ]a", true, &[(Mark(OPEN_SQUARE), 0, 1, true), (Mark(CLOSE_SQUARE), 2, 3, true), (Name { suffix: NO_SUFFIX, bracket: false }, 3, 4, true)], true),
+    (b"[ ]a", false, &[(Mark(OPEN_SQUARE), 0, 1, false), (Mark(CLOSE_SQUARE), 2, 3, false), (Name { suffix: NO_SUFFIX, bracket: false }, 3, 4, false)], false),
+    (b"[a[]:]", false, &[(Mark(OPEN_SQUARE), 0, 1, false), (Name { suffix: NO_SUFFIX, bracket: false }, 1, 2, true), (Mark(OPEN_SQUARE), 2, 3, true), (Mark(CLOSE_SQUARE), 3, 4, true), (Mark(COLON), 4, 5, true), (Mark(CLOSE_SQUARE), 5, 6, false)], false),
+];
+
 #[test]
 fn texts_are_cut(rt: HostRuntime) -> Result<(), Fail> {
-    use SymKind::{LineRef, Mark, Number, Tail, Text, Token};
-    let alloc = rt.alloc();
-    assert!(rt; cuts(alloc, b"  ", false, &[], false));
-    assert!(rt; cuts(alloc, b"%12 2147483647 007", false, &[off(Number(1), 0, 2), off(Number(2), 2, 3), off(Number(2147483647), 4, 14), off(Number(7), 15, 18)], false));
-    assert!(rt; cuts(alloc, b"&FfG&FFFFFFFF&0080000000", false, &[off(Number(255), 0, 3), off(name(NO_SUFFIX, false), 3, 4), off(Number(-1), 4, 13), off(Number(-2147483648), 13, 24)], false));
-    assert!(rt; cuts(alloc, b"%11111111111111111111111111111110", false, &[off(Number(-2), 0, 33)], false));
-    assert!(rt; cuts(alloc, b"\"\"1\"a\"\"b\"", false, &[off(Text, 0, 2), off(Number(1), 2, 3), off(Text, 3, 9)], false));
-    assert!(rt; cuts(alloc, b"x_1`%(A$(b@%(", false, &[off(name(b'%', true), 0, 6), off(name(b'$', true), 6, 9), off(name(NO_SUFFIX, false), 9, 10), off(name(b'%', false), 10, 12), off(Mark(OPEN_ROUND), 12, 13)], false));
-    assert!(rt; cuts(alloc, b"\xa41x$(\xf2_\xa4 a%$", false, &[off(call(true, true), 0, 5), off(call(false, false), 5, 7), off(Token(0xa4), 7, 8), off(name(b'%', false), 9, 11), off(Mark(DOLLAR), 11, 12)], false));
-    assert!(rt; cuts(alloc, b"\x7f\xcc\xc8\x98\xe5\x8dTJ@,", false, &[off(Token(0x7f), 0, 1), off(Token(0xcc), 1, 2), off(Token(0xc898), 2, 4), off(Token(0xe5), 4, 5), off(LineRef(10), 5, 9), off(Mark(COMMA), 9, 10)], false));
-    assert!(rt; cuts(alloc, b":\xdc", false, &[off(Mark(COLON), 0, 1), off(Token(0xdc), 1, 2), off(Tail, 2, 2)], false));
-    assert!(rt; cuts(alloc, b">>>>= <> <<+=-=+ =>>", false, &[off(Mark(SHIFT_RIGHT_LOGICAL), 0, 3), off(Mark(GREATER_OR_EQUAL), 3, 5), off(Mark(NOT_EQUAL), 6, 8), off(Mark(SHIFT_LEFT), 9, 11),
-        off(Mark(PLUS_EQUALS), 11, 13), off(Mark(MINUS_EQUALS), 13, 15), off(Mark(PLUS), 15, 16), off(Mark(EQUALS), 17, 18), off(Mark(SHIFT_RIGHT), 18, 20)], false));
-    assert!(rt; cuts(alloc, b"><=<\xf4 \"a", false, &[off(Mark(GREATER), 0, 1), off(Mark(LESS_OR_EQUAL), 1, 3), off(Mark(LESS), 3, 4), off(Token(0xf4), 4, 5), off(Tail, 5, 8)], false));
+    for (text, asm, rows, asm_after) in TEXTS {
+        assert!(rt; cuts(rt.alloc(), text, asm, rows, asm_after), "{text:?}");
+    }
     Ok(())
 }
 
 #[rattlefmt::skip]
+/// Texts, whether the assembler is on before them, and the place at which they are bad.
+const BAD_TEXTS: [(&[u8], bool, u8); 18] = [
+    (b"2147483648", false, 0),
+    (b"1+&100000000", false, 2),
+    (b"%100000000000000000000000000000000", false, 0),
+    (b"&G", false, 0),
+    (b"A%%2", false, 2),
+    (b"@(", false, 0),
+    (b"1.5", false, 1),
+    (b"\xf1 \"x", false, 2),
+    (b"\"\"\"", false, 2),
+    (b"\"a\"\"b", false, 3),
+    (b" \x8dTJ", false, 1),
+    (b"1\xc8\xa3", false, 1),
+    (b"\xc6", false, 0),
+    (b"\\", false, 0),
+    (b".loop", false, 0),
+    (b"\x01", true, 0),
+    (b".(", true, 0),
+    (b"].", true, 1),
+];
+
 #[test]
 fn texts_are_bad(rt: HostRuntime) -> Result<(), Fail> {
-    let alloc = rt.alloc();
-    assert!(rt; is_bad(alloc, b"2147483648", false, 0) && is_bad(alloc, b"1+&100000000", false, 2) && is_bad(alloc, b"%100000000000000000000000000000000", false, 0));
-    assert!(rt; is_bad(alloc, b"&G", false, 0) && is_bad(alloc, b"A%%2", false, 2) && is_bad(alloc, b"@(", false, 0) && is_bad(alloc, b"1.5", false, 1));
-    assert!(rt; is_bad(alloc, b"\xf1 \"x", false, 2) && is_bad(alloc, b"\"\"\"", false, 2) && is_bad(alloc, b"\"a\"\"b", false, 3));
-    assert!(rt; is_bad(alloc, b" \x8dTJ", false, 1) && is_bad(alloc, b"1\xc8\xa3", false, 1) && is_bad(alloc, b"\xc6", false, 0));
-    assert!(rt; is_bad(alloc, b"\\", false, 0) && is_bad(alloc, b".loop", false, 0));
-    assert!(rt; is_bad(alloc, b"\x01", true, 0) && is_bad(alloc, b".(", true, 0) && is_bad(alloc, b"].", true, 1));
-    Ok(())
-}
-
-#[rattlefmt::skip]
-#[test]
-fn the_assembler(rt: HostRuntime) -> Result<(), Fail> {
-    use SymKind::{Label, Mark, Tail, Token};
-    let alloc = rt.alloc();
-    assert!(rt; cuts(alloc, b".loop$.a%(.@%", true, &[on(Label, 0, 5), on(Mark(DOLLAR), 5, 6), on(Label, 6, 9), on(Mark(OPEN_ROUND), 9, 10), on(Label, 10, 13)], true));
-    assert!(rt; cuts(alloc, b"a;b:]", true, &[on(name(NO_SUFFIX, false), 0, 1)], true));
-    assert!(rt; cuts(alloc, b"\\:]", true, &[], true) && cuts(alloc, b"\xf4:]", true, &[], true));
-    assert!(rt; cuts(alloc, b"\xdc;", true, &[on(Token(0xdc), 0, 1), on(Tail, 1, 2)], true));
-    assert!(rt; cuts(alloc, b"a: ];", true, &[on(name(NO_SUFFIX, false), 0, 1), on(Mark(COLON), 1, 2), off(Mark(CLOSE_SQUARE), 3, 4), off(Mark(SEMICOLON), 4, 5)], false));
-    assert!(rt; cuts(alloc, b"[ ]a", true, &[on(Mark(OPEN_SQUARE), 0, 1), on(Mark(CLOSE_SQUARE), 2, 3), on(name(NO_SUFFIX, false), 3, 4)], true));
-    assert!(rt; cuts(alloc, b"[ ]a", false, &[off(Mark(OPEN_SQUARE), 0, 1), off(Mark(CLOSE_SQUARE), 2, 3), off(name(NO_SUFFIX, false), 3, 4)], false));
-    assert!(rt; cuts(alloc, b"[a[]:]", false, &[off(Mark(OPEN_SQUARE), 0, 1), on(name(NO_SUFFIX, false), 1, 2), on(Mark(OPEN_SQUARE), 2, 3), on(Mark(CLOSE_SQUARE), 3, 4), on(Mark(COLON), 4, 5), off(Mark(CLOSE_SQUARE), 5, 6)], false));
+    for (text, asm, place) in BAD_TEXTS {
+        assert!(rt; is_bad(rt.alloc(), text, asm, place), "{text:?}");
+    }
     Ok(())
 }
 
@@ -119,7 +130,14 @@ fn the_longest_list(rt: HostRuntime) -> Result<(), Fail> {
         Ok(run) => {
             assert_eq!(rt; run.list.len(), 252);
             let last = run.list.as_slice().last();
-            assert!(rt; last == Some(&off(SymKind::Tail, 251, 251)));
+            assert!(rt;
+                last == Some(&Sym {
+                    kind: SymKind::Tail,
+                    from: 251,
+                    to: 251,
+                    asm: false
+                })
+            );
         }
         Err(_) => assert!(rt; false),
     }
