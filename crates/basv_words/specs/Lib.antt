@@ -1,0 +1,3 @@
+pub mod Given
+pub mod Command
+pub mod Meant
