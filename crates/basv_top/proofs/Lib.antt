@@ -2,8 +2,9 @@ mod Endings
 mod Written
 mod Statuses
 mod Taken
-mod RunOutputs
+mod Untaken
+mod RunningFacts
+mod RunFacts
 mod CompileFacts
 mod ListFacts
-mod RunFacts
 mod CrunchFacts

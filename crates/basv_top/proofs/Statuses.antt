@@ -8,7 +8,7 @@ use Rattle.bas_compile.specs.declared.refusal.Refusal.TheVariants as refusals
 use Rattle.basv_top.specs.declared.status.Status.{Status}
 use Rattle.basv_top.specs.declared.status.Status.TheVariants as statuses
 use Rattle.basv_top.specs.Ending.{refusal_status, end_status}
-use Rattle.basv_top.specs.RunCommand.{IsRunStatus}
+use Rattle.basv_top.specs.RunPromises.{IsRunStatus}
 
 -- a refusal has one of these statuses
 abbrev pub IsRefusalStatus : Status → Type 0

@@ -17,21 +17,19 @@ one_event : (later : List Event) (e f : Event) → later ++ e ∷ [] ≡ f ∷ [
 one_event [] e f is = ap (λ l. get_or l 0 e) is
 one_event (x ∷ xs) e f is = absurd (omega (arith, ap length is, length-append xs (e ∷ [])))
 
--- where one event came, it is the first that came
-pub first_of_one : (later log : List Event) (e f : Event) → later ++ e ∷ log ≡ f ∷ log → e ≡ f
-first_of_one later log e f is = one_event later e f (append_cancel_right (later ++ e ∷ []) (f ∷ []) log (append_assoc later (e ∷ []) log ∙ is))
-
-two_events : (later : List Event) (e f g : Event) → later ++ e ∷ [] ≡ g ∷ f ∷ [] → e ≡ f
-two_events [] e f g is = absurd (omega (arith, ap length is))
-two_events (x ∷ xs) e f g is = one_event xs e f (ap tail is)
+-- where lists of events end in one each, these are the same
+same_first : (xs ys : List Event) (e f : Event) → xs ++ e ∷ [] ≡ ys ++ f ∷ [] → e ≡ f
+same_first [] ys e f is = sym (one_event ys f e (sym is))
+same_first (x ∷ xs) [] e f is = one_event (x ∷ xs) e f is
+same_first (x ∷ xs) (y ∷ ys) e f is = same_first xs ys e f (ap tail is)
   where
     tail : List Event → List Event
     tail [] = []
-    tail (y ∷ ys) = ys
+    tail (z ∷ zs) = zs
 
--- where two events came, the first is the one that came before the other
-pub first_of_two : (later log : List Event) (e f g : Event) → later ++ e ∷ log ≡ g ∷ f ∷ log → e ≡ f
-first_of_two later log e f g is = two_events later e f g (append_cancel_right (later ++ e ∷ []) (g ∷ f ∷ []) log (append_assoc later (e ∷ []) log ∙ is))
+-- the first event that came after a log is one
+pub one_first : (xs ys log : List Event) (e f : Event) → xs ++ e ∷ log ≡ ys ++ f ∷ log → e ≡ f
+one_first xs ys log e f is = same_first xs ys e f (append_cancel_right (xs ++ e ∷ []) (ys ++ f ∷ []) log (append_assoc xs (e ∷ []) log ∙ is ∙ sym (append_assoc ys (f ∷ []) log)))
 
 -- the bytes of an event that is a take which gave some
 abbrev bytes_of : Event → List ℕ → List ℕ
@@ -59,19 +57,21 @@ missing≢taken told given is tells = let e : None ≡ Some given = subst (λ t.
 
 -- the bytes that were taken are the content of the name
 module _ (before after : SeenShelf) (name bytes given : List ℕ) where
+  pub gave_is : Gave before after name given → Tells (before.content name) (Some given) → IsContent before after name bytes → given ≡ bytes
+  gave_is gave tells (inl other) = same_bytes name name bytes given (one_first other.0 gave.0 before.log (Took name bytes) (Took name given) (sym other.1 ∙ gave.1))
+  gave_is gave tells (inr held) = told_is (before.content name) bytes given held.0 tells
+
   pub taken_is : after.log ≡ Took name given ∷ before.log → Tells (before.content name) (Some given) → IsContent before after name bytes → given ≡ bytes
-  taken_is logged tells (inl gave) = same_bytes name name bytes given (first_of_one gave.0 before.log (Took name bytes) (Took name given) (sym gave.1 ∙ logged))
-  taken_is logged tells (inr held) = told_is (before.content name) bytes given held.0 tells
+  taken_is logged tells is = gave_is ([], logged) tells is
 
   pub taken_before_is : (event : Event) → after.log ≡ event ∷ Took name given ∷ before.log → Tells (before.content name) (Some given) → IsContent before after name bytes → given ≡ bytes
-  taken_before_is event logged tells (inl gave) = same_bytes name name bytes given (first_of_two gave.0 before.log (Took name bytes) (Took name given) event (sym gave.1 ∙ logged))
-  taken_before_is event logged tells (inr held) = told_is (before.content name) bytes given held.0 tells
+  taken_before_is event logged tells is = gave_is (event ∷ [], logged) tells is
 
 module _ (before after : SeenShelf) (name : List ℕ) (max : ℕ) (long : Refusal) where
   -- a take that gave bytes is no take that gave none
   not_given : (error : TakeError) (bytes : List ℕ) → after.log ≡ NotTaken name error ∷ before.log → Gave before after name bytes → ⊥
   not_given error bytes logged gave =
-      let e : Took name bytes ≡ NotTaken name error = first_of_one gave.0 before.log (Took name bytes) (NotTaken name error) (sym gave.1 ∙ logged) in
+      let e : Took name bytes ≡ NotTaken name error = one_first gave.0 [] before.log (Took name bytes) (NotTaken name error) (sym gave.1 ∙ logged) in
       subst IsTook e tt
 
   cannot_read : (bytes : List ℕ) → CannotRead before after name → IsContent before after name bytes → ⊥

@@ -5,7 +5,7 @@ use Rattle.arm2_machine.specs.declared.image.ImageError.{ImageError}
 use Rattle.arm2_machine.specs.declared.image.ImageError.TheVariants as image_errors
 use Rattle.basv_crunch.specs.declared.error.CrunchError.{CrunchError}
 use Rattle.basv_crunch.specs.declared.error.CrunchError.TheVariants as crunch_errors
-use Rattle.bv_base.specs.Limits.{file_bytes, image_words, text_file_bytes, crunched_file_bytes}
+use Rattle.bv_base.specs.Limits.{file_bytes, input_bytes, image_words, text_file_bytes, crunched_file_bytes}
 use Rattle.bv_num.specs.Digits.{digit_byte}
 use Rattle.bv_run.specs.declared.report.Report.{Report}
 use Rattle.bv_run.specs.declared.report.Report.TheVariants as reports
@@ -205,6 +205,10 @@ long_crunched = refusals.Limit limits.File (crunched_file_bytes + 1)
 -- how an image of too many words is refused
 abbrev pub long_image : Refusal
 long_image = refusals.Limit limits.Image (image_words + 1)
+
+-- how an input of too many bytes is refused
+abbrev pub long_input : Refusal
+long_input = refusals.Limit limits.Input (input_bytes + 1)
 
 -- how `run` ends whose image could not be read
 abbrev pub image_ending : ImageError → Ending

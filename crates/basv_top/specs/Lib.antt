@@ -1,10 +1,10 @@
-pub mod Command
-pub mod Meant
 pub mod Ending
 pub mod Seen
 pub mod Taking
 pub mod ListCommand
 pub mod CompileCommand
+pub mod Running
+pub mod RunPromises
 pub mod RunCommand
 pub mod Top
 pub mod InMemory

@@ -1,12 +1,12 @@
 -- Taking a content from a shelf, and what comes of it. This project's own.
-use Rattle.std.specs.Prelude.{◌≡◌, ◌⊎◌, ℕ, List, ◌∷◌, ◌++◌, Some, None}
+use Rattle.std.specs.Prelude.{◌≡◌, ◌⊎◌, ℕ, ◌≤◌, List, ◌∷◌, ◌++◌, Some, None}
 use Rattle.bv_io.specs.declared.shelf.TakeError.TheVariants as take_errors
 use Rattle.bv_io.specs.Log.{Event, Took, NotTaken}
 use Rattle.bv_io.specs.Shelf.{Rose, Tells, TellsMore}
 use Rattle.bas_compile.specs.declared.refusal.Refusal.{Refusal}
 use Rattle.bas_compile.specs.declared.refusal.Refusal.TheVariants as refusals
 use Rattle.basv_top.specs.Ending.{Ending, Done, Usage, Refused, ReadFault, WriteFault, NotImage, BadText, Ran}
-use Rattle.basv_top.specs.Seen.{SeenShelf}
+use Rattle.basv_top.specs.Seen.{SeenShelf, Same}
 
 -- the shelf gave these bytes under the name, when it was asked for the first time
 abbrev pub Gave : SeenShelf → SeenShelf → List ℕ → List ℕ → Type 0
@@ -35,6 +35,12 @@ TakeFails before after name max too_long WriteFault = ⊥
 TakeFails before after name max too_long (NotImage at) = ⊥
 TakeFails before after name max too_long (BadText piece) = ⊥
 TakeFails before after name max too_long (Ran end bound) = ⊥
+
+-- no name changed and no put failed, and the count of failed takes did not fall
+pub record Calm (before after : SeenShelf) : Type 0 where
+  pub same : Same before after
+  pub put_faults : after.put_faults ≡ before.put_faults
+  pub take_faults : before.take_faults ≤ after.take_faults
 
 -- the shelf was asked once, and gave these bytes, which are those that it tells
 abbrev pub Takes : SeenShelf → SeenShelf → List ℕ → List ℕ → Type 0

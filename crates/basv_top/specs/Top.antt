@@ -1,20 +1,20 @@
 -- What the program does, by the command that its words are. This project's own.
-use Rattle.std.specs.Prelude.{◌≡◌, ◌≢◌, ℕ, List, [], Option, Some, None}
+use Rattle.std.specs.Prelude.{◌≡◌, ◌≢◌, ◌⊎◌, ℕ, List, Option, Some, None}
 use Rattle.basv_top.specs.declared.status.Status.{Status}
-use Rattle.basv_top.specs.Command.{Command, Listing, Compile, Run, Crunch}
+use Rattle.basv_words.specs.Command.{Command, Listing, Compile, Run, Crunch}
 use Rattle.basv_top.specs.Ending.{Ending, Usage, status_of, line_of}
 use Rattle.basv_top.specs.Seen.{SeenShelf, SeenSink, Silent, Same, Writes}
 use Rattle.basv_top.specs.ListCommand.{EndsList}
-use Rattle.basv_top.specs.CompileCommand.{EndsCompile}
+use Rattle.basv_top.specs.CompileCommand.{EndsCompile, MayWrite}
 use Rattle.basv_top.specs.CrunchCommand.{EndsCrunch}
-use Rattle.basv_top.specs.RunCommand.{EndsRun, greatest_bound}
+use Rattle.basv_top.specs.RunCommand.{EndsRun}
 
 -- why the words end so
 abbrev pub EndsCommand : SeenShelf → SeenShelf → SeenSink → SeenSink → Option Command → Ending → Type 0
 EndsCommand before after out_before out_after None ending = (ending ≡ Usage) × (after ≡ before) × Silent out_before out_after
 EndsCommand before after out_before out_after (Some (Listing file)) ending = EndsList before after out_before out_after file ending
 EndsCommand before after out_before out_after (Some (Compile file image)) ending = EndsCompile before after file image ending × Silent out_before out_after
-EndsCommand before after out_before out_after (Some (Run image)) ending = EndsRun before after out_before out_after image [] greatest_bound ending
+EndsCommand before after out_before out_after (Some (Run image options)) ending = EndsRun before after out_before out_after image options ending
 EndsCommand before after out_before out_after (Some (Crunch text file)) ending = EndsCrunch before after text file ending × Silent out_before out_after
 
 -- The program ended in some way, for its reason, with the status of that way, and with its line on the error output.
@@ -24,8 +24,14 @@ pub record Ends (before after : SeenShelf) (out_before out_after err_before err_
   pub explained : EndsCommand before after out_before out_after command ending
   pub line : Writes err_before err_after (line_of ending)
 
--- no name changes but a compile's IMAGE and a tokenising's FILE
+-- no name changes but a compile's IMAGE, a tokenising's FILE, and the name of a run's arena
 abbrev pub OnlyNamed : SeenShelf → SeenShelf → Option Command → Type 0
 OnlyNamed before after (Some (Compile file image)) = (n : List ℕ) → n ≢ image → after.content n ≡ before.content n
 OnlyNamed before after (Some (Crunch text file)) = (n : List ℕ) → n ≢ file → after.content n ≡ before.content n
+OnlyNamed before after (Some (Run image options)) = (n : List ℕ) → options.arena ≢ Some n → after.content n ≡ before.content n
 OnlyNamed before after command = Same before after
+
+-- nor any, where a command other than a run has a status without something written
+abbrev pub SameUnlessWritten : SeenShelf → SeenShelf → Option Command → Status → Type 0
+SameUnlessWritten before after (Some (Run image options)) status = Unit {0}
+SameUnlessWritten before after command status = MayWrite status ⊎ Same before after

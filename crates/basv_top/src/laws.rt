@@ -1,7 +1,7 @@
 //! The law of the program over a shelf that never fails.
 ghost use Rattle.std.specs.Prelude.{◌≢◌, [], List, map, string_bytes};
 ghost use Rattle.bv_io.specs.Log.{Event};
-ghost use Rattle.basv_top.specs.Command.{command_of};
+ghost use Rattle.basv_words.specs.Command.{command_of};
 ghost use Rattle.basv_top.specs.InMemory.{seen_dropped, seen_in_memory};
 ghost use Rattle.basv_top.specs.Top.{Ends};
 

@@ -2,7 +2,6 @@
 //! the error output.
 #![tactic(auto)]
 
-mod command;
 mod compile_command;
 mod crunch_command;
 mod ending;
@@ -11,6 +10,7 @@ mod limits;
 mod list_command;
 mod message;
 mod run_command;
+mod running;
 mod status;
 mod taking;
 mod top;

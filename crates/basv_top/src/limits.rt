@@ -1,12 +1,18 @@
 //! How contents of too many bytes are refused. The count stops one past the limit.
 
 use bas_compile::{Refusal, Which};
-use bv_base::{CRUNCHED_FILE_BYTES, IMAGE_WORDS, TEXT_FILE_BYTES};
+use bv_base::{CRUNCHED_FILE_BYTES, IMAGE_WORDS, INPUT_BYTES, TEXT_FILE_BYTES};
 
 /// How an image of too many words is refused.
 pub const LONG_IMAGE: Refusal = Refusal::Limit {
     which: Which::Image,
     count: IMAGE_WORDS + 1,
+};
+
+/// How an input of too many bytes is refused.
+pub const LONG_INPUT: Refusal = Refusal::Limit {
+    which: Which::Input,
+    count: INPUT_BYTES + 1,
 };
 
 /// How a text of too many bytes is refused.

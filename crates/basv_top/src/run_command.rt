@@ -1,65 +1,100 @@
-//! The command `run IMAGE`.
-ghost use Rattle.std.specs.Prelude.{◌≡◌, ◌≤◌, length};
+//! The command `run IMAGE`, with its options.
+ghost use Rattle.std.specs.Prelude.{◌≡◌, ◌≢◌, ◌⊎◌, ◌≤◌, ℕ, List, Some, length, IfOk, IfErr};
+ghost use Rattle.bas_compile.specs.declared.refusal.Refusal.TheVariants as refusals;
 ghost use Rattle.bv_base.specs.Limits.{image_bytes, image_words};
-ghost use Rattle.basv_top.specs.Ending.{told, ended_run};
-ghost use Rattle.basv_top.specs.RunCommand.{BytesEndRun, EndsRun, WordsEndRun};
-ghost use Rattle.basv_top.specs.Seen.{Same, seen_shelf, seen_sink};
+ghost use Rattle.bv_base.specs.Words.{AreWords};
+ghost use Rattle.arm2_machine.specs.Image.{ImageOf};
+ghost use Rattle.arm2_machine.specs.Step.{board_run};
+ghost use Rattle.basv_words.specs.Meant.{chosen};
+ghost use Rattle.basv_top.specs.Ending.{Refused, told, ended_run, long_image};
+ghost use Rattle.basv_top.specs.Running.{RunEnds, RunsWith};
+ghost use Rattle.basv_top.specs.RunCommand.{EndsRun, Unrunnable};
+ghost use Rattle.basv_top.specs.Seen.{seen_shelf, seen_sink};
+ghost use Rattle.basv_top.specs.Taking.{Calm, Takes, TakeFails};
 
 use crate::ending::Ending;
 use crate::limits::LONG_IMAGE;
+use crate::running::{put_arena, take_input};
 use crate::taking::take_within;
 use arm2_machine::{Board, read_image};
+use basv_words::Options;
 use bv_base::IMAGE_BYTES;
 use bv_io::{Shelf, Sink};
 use bv_run::RunEnd;
 use std::alloc::Global;
 
-/// Runs words on the board. All memory is taken before the first byte is written.
-fn run_words<'a, O: Sink>(
+/// The words of the image under a name.
+fn take_words<'a, S: Shelf>(
+    alloc: Global,
+    image: &'a str,
+    shelf: &mut S,
+) -> Result<Vec<u32>, Ending<'a>>
+    ensures words { IfOk result (λ words. (bytes : List ℕ) × Takes (seen_shelf S.Shelf shelf.old) (seen_shelf S.Shelf shelf.new) image.now bytes
+        × (length bytes ≤ image_bytes) × AreWords words.items × ImageOf bytes words.items) }
+    ensures none { IfErr result (λ ending. TakeFails (seen_shelf S.Shelf shelf.old) (seen_shelf S.Shelf shelf.new) image.now image_bytes long_image (told ending)
+        ⊎ ((bytes : List ℕ) × Takes (seen_shelf S.Shelf shelf.old) (seen_shelf S.Shelf shelf.new) image.now bytes
+        × (length bytes ≤ image_bytes) × (Unrunnable bytes (told ending) ⊎ (told ending ≡ Refused refusals.NoMemory)))) }
+    ensures calm { Calm (seen_shelf S.Shelf shelf.old) (seen_shelf S.Shelf shelf.new) }
+{
+    let bytes = take_within(alloc, image, IMAGE_BYTES, LONG_IMAGE, shelf)?;
+    let words = read_image(alloc, bytes.as_slice())?;
+    Ok(words)
+}
+
+/// Runs words on the board, and puts the arena that they leave. All memory is taken before the first byte is written, but
+/// for what the shelf takes for the arena.
+fn run_words<'a, S: Shelf, O: Sink>(
     alloc: Global,
     words: &[u32],
     input: Vec<u8>,
-    bound: u64,
+    options: Options<'a>,
+    shelf: &mut S,
     out: &mut O,
 ) -> Result<RunEnd, Ending<'a>>
     requires { length words.now ≤ image_words }
-    ensures { WordsEndRun words.now input.items bound (seen_sink O.Sink out.old) (seen_sink O.Sink out.new) (ended_run result bound) }
+    ensures { RunEnds (board_run words.now input.items (chosen options.entry).steps) (chosen options.entry).arena (chosen options.entry).steps
+        (seen_shelf S.Shelf shelf.old) (seen_shelf S.Shelf shelf.new) (seen_sink O.Sink out.old) (seen_sink O.Sink out.new)
+        (ended_run result (chosen options.entry).steps) }
 {
     let mut board = Board::load(alloc, words, input)?;
-    let end = board.run(bound, out)?;
+    let end = board.run(options.steps, out)?;
+    put_arena(options.arena, board.arena(), shelf)?;
     Ok(end)
 }
 
-/// Runs the words of which the bytes are an image.
-fn run_bytes<'a, O: Sink>(
+/// Runs words with the input and under the bound that the options say.
+fn run_with<'a, S: Shelf, O: Sink>(
     alloc: Global,
-    bytes: &[u8],
-    input: Vec<u8>,
-    bound: u64,
+    words: &[u32],
+    options: Options<'a>,
+    shelf: &mut S,
     out: &mut O,
 ) -> Result<RunEnd, Ending<'a>>
-    requires { length bytes.now ≤ image_bytes }
-    ensures { BytesEndRun bytes.now input.items bound (seen_sink O.Sink out.old) (seen_sink O.Sink out.new) (ended_run result bound) }
+    requires { length words.now ≤ image_words }
+    ensures { RunsWith (board_run words.now) (chosen options.entry)
+        (seen_shelf S.Shelf shelf.old) (seen_shelf S.Shelf shelf.new) (seen_sink O.Sink out.old) (seen_sink O.Sink out.new)
+        (ended_run result (chosen options.entry).steps) }
 {
-    let words = read_image(alloc, bytes)?;
-    run_words(alloc, words.as_slice(), input, bound, out)
+    let input = take_input(alloc, options.input, shelf)?;
+    run_words(alloc, words, input, options, shelf, out)
 }
 
-/// Runs the image under a name, with an input and under a bound of instructions.
+/// Runs the image under a name.
 pub fn run<'a, S: Shelf, O: Sink>(
     alloc: Global,
     image: &'a str,
-    input: Vec<u8>,
-    bound: u64,
+    options: Options<'a>,
     shelf: &mut S,
     out: &mut O,
 ) -> Ending<'a>
-    ensures ends { EndsRun (seen_shelf S.Shelf shelf.old) (seen_shelf S.Shelf shelf.new)
-        (seen_sink O.Sink out.old) (seen_sink O.Sink out.new) image.now input.items bound (told result) }
-    ensures same { Same (seen_shelf S.Shelf shelf.old) (seen_shelf S.Shelf shelf.new) }
+    ensures { EndsRun (seen_shelf S.Shelf shelf.old) (seen_shelf S.Shelf shelf.new)
+        (seen_sink O.Sink out.old) (seen_sink O.Sink out.new) image.now (chosen options.entry) (told result) }
 {
-    match take_within(alloc, image, IMAGE_BYTES, LONG_IMAGE, shelf) {
-        Ok(bytes) => Ending::of_run(run_bytes(alloc, bytes.as_slice(), input, bound, out), bound),
+    match take_words(alloc, image, shelf) {
+        Ok(words) => Ending::of_run(
+            run_with(alloc, words.as_slice(), options, shelf, out),
+            options.steps,
+        ),
         Err(ending) => ending,
     }
 }

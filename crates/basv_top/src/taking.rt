@@ -2,7 +2,7 @@
 ghost use Rattle.std.specs.Prelude.{◌≡◌, ◌≤◌, length, IfOk, IfErr};
 ghost use Rattle.basv_top.specs.Ending.{told};
 ghost use Rattle.basv_top.specs.Seen.{Same, seen_shelf};
-ghost use Rattle.basv_top.specs.Taking.{TakeFails, Takes};
+ghost use Rattle.basv_top.specs.Taking.{Calm, TakeFails, Takes};
 
 use crate::ending::Ending;
 use bas_compile::Refusal;
@@ -20,6 +20,7 @@ pub fn take_within<'a, S: Shelf>(
     ensures taken { IfOk result (λ bytes. Takes (seen_shelf S.Shelf shelf.old) (seen_shelf S.Shelf shelf.new) name.now bytes.items) }
     ensures fits { IfOk result (λ bytes. length bytes.items ≤ max) }
     ensures not_taken { IfErr result (λ ending. TakeFails (seen_shelf S.Shelf shelf.old) (seen_shelf S.Shelf shelf.new) name.now max too_long (told ending)) }
+    ensures calm { Calm (seen_shelf S.Shelf shelf.old) (seen_shelf S.Shelf shelf.new) }
     ensures same { Same (seen_shelf S.Shelf shelf.old) (seen_shelf S.Shelf shelf.new) }
     ensures put_faults { S.put_faults shelf.new ≡ S.put_faults shelf.old }
 {

@@ -1,15 +1,14 @@
 //! The program: what its words ask for, and how it ends.
-ghost use Rattle.std.specs.Prelude.{◌≡◌, ◌≢◌, ◌⊎◌, ℕ, List, [], None, Some, map, string_bytes};
-ghost use Rattle.basv_top.specs.Command.{Listing as IsList, Compile as IsCompile, Run as IsRun, Crunch as IsCrunch, command_of};
-ghost use Rattle.basv_top.specs.CompileCommand.{Compiles, MayWrite};
+ghost use Rattle.std.specs.Prelude.{◌≡◌, ◌≢◌, ◌⊎◌, ℕ, List, None, Some, map, string_bytes};
+ghost use Rattle.basv_words.specs.Command.{Options as AreOptions, Listing as IsList, Compile as IsCompile, Run as IsRun, Crunch as IsCrunch, command_of};
+ghost use Rattle.basv_top.specs.CompileCommand.{Compiles};
 ghost use Rattle.basv_top.specs.CrunchCommand.{Crunches};
 ghost use Rattle.basv_top.specs.Ending.{told, status_of};
 ghost use Rattle.basv_top.specs.ListCommand.{Lists};
-ghost use Rattle.basv_top.specs.RunCommand.{Runs, greatest_bound};
-ghost use Rattle.basv_top.specs.Seen.{Same, Silent, seen_shelf, seen_sink};
-ghost use Rattle.basv_top.specs.Top.{Ends, EndsCommand, OnlyNamed};
+ghost use Rattle.basv_top.specs.RunCommand.{Runs};
+ghost use Rattle.basv_top.specs.Seen.{Silent, seen_shelf, seen_sink};
+ghost use Rattle.basv_top.specs.Top.{Ends, EndsCommand, OnlyNamed, SameUnlessWritten};
 
-use crate::command::{Command, read_command};
 use crate::compile_command::compile;
 use crate::crunch_command::crunch;
 use crate::ending::Ending;
@@ -17,11 +16,9 @@ use crate::list_command::list;
 use crate::message::report;
 use crate::run_command::run;
 use crate::status::Status;
+use basv_words::{Command, read_command};
 use bv_io::{Shelf, Sink};
 use std::alloc::Global;
-
-/// The bound of a run for which none is asked.
-pub const GREATEST_BOUND: u64 = u64::MAX;
 
 /// Does what the words ask for.
 fn carry_out<'a, S: Shelf, O: Sink>(
@@ -33,14 +30,12 @@ fn carry_out<'a, S: Shelf, O: Sink>(
     ensures ends { EndsCommand (seen_shelf S.Shelf shelf.old) (seen_shelf S.Shelf shelf.new)
         (seen_sink O.Sink out.old) (seen_sink O.Sink out.new) (command_of (map string_bytes words.now)) (told result) }
     ensures changes { OnlyNamed (seen_shelf S.Shelf shelf.old) (seen_shelf S.Shelf shelf.new) (command_of (map string_bytes words.now)) }
-    ensures same { MayWrite (status_of (told result)) ⊎ Same (seen_shelf S.Shelf shelf.old) (seen_shelf S.Shelf shelf.new) }
+    ensures same { SameUnlessWritten (seen_shelf S.Shelf shelf.old) (seen_shelf S.Shelf shelf.new) (command_of (map string_bytes words.now)) (status_of (told result)) }
 {
     match read_command(words) {
         Some(Command::List { file }) => list(alloc, file, shelf, out),
         Some(Command::Compile { file, image }) => compile(alloc, file, image, shelf),
-        Some(Command::Run { image }) => {
-            run(alloc, image, Vec::new(alloc), GREATEST_BOUND, shelf, out)
-        }
+        Some(Command::Run { image, options }) => run(alloc, image, options, shelf, out),
         Some(Command::Crunch { text, file }) => crunch(alloc, text, file, shelf),
         None => Ending::Usage,
     }
@@ -48,8 +43,9 @@ fn carry_out<'a, S: Shelf, O: Sink>(
 
 /// The program `basv`, on the words after its name. `list FILE` writes the listing of the tokenised program that the
 /// shelf holds under FILE to `out`. `compile FILE IMAGE` puts that program's image file under IMAGE. `run IMAGE` runs
-/// the image that the shelf holds under IMAGE on the board, without input, and writes its output to `out`. `crunch TEXT
-/// FILE` puts the tokenised file of a program's text under FILE. Where the command, or the program that ran, isn't done,
+/// the image that the shelf holds under IMAGE on the board, and writes its output to `out`; with `--input F` its input is
+/// what the shelf holds under F, with `--steps N` it ends after N instructions, and with `--arena F` the arena is put under
+/// F after the run. `crunch TEXT FILE` puts the tokenised file of a program's text under FILE. Where the command, or the program that ran, isn't done,
 /// one line on `err` says why.
 pub fn basv<S: Shelf, O: Sink, E: Sink>(
     alloc: Global,
@@ -66,9 +62,9 @@ pub fn basv<S: Shelf, O: Sink, E: Sink>(
     ensures list { (file : List ℕ) → command_of (map string_bytes words.now) ≡ Some (IsList file)
         → Lists (seen_shelf S.Shelf shelf.old) (seen_shelf S.Shelf shelf.new)
         (seen_sink O.Sink out.old) (seen_sink O.Sink out.new) file result }
-    ensures run { (image : List ℕ) → command_of (map string_bytes words.now) ≡ Some (IsRun image)
+    ensures run { (image : List ℕ) (options : AreOptions) → command_of (map string_bytes words.now) ≡ Some (IsRun image options)
         → Runs (seen_shelf S.Shelf shelf.old) (seen_shelf S.Shelf shelf.new)
-        (seen_sink O.Sink out.old) (seen_sink O.Sink out.new) image [] greatest_bound result }
+        (seen_sink O.Sink out.old) (seen_sink O.Sink out.new) image options result }
     ensures crunch { (text file : List ℕ) → command_of (map string_bytes words.now) ≡ Some (IsCrunch text file)
         → Crunches (seen_shelf S.Shelf shelf.old) (seen_shelf S.Shelf shelf.new)
         (seen_sink O.Sink out.old) (seen_sink O.Sink out.new) text file result }
