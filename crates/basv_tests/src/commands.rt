@@ -200,7 +200,7 @@ const CRUNCH: &[&str] = &["crunch", "f", "g"];
 
 #[rattlefmt::skip]
 /// Words, the content of `f`, and the status and the line of a command that writes nothing to the output.
-const LINES: [(&[&str], &[u8], Status, &[u8]); 12] = [
+const LINES: [(&[&str], &[u8], Status, &[u8]); 15] = [
     (COMPILE, VDU_65, Status::Done, b""),
     (COMPILE, b"", Status::Malformed, b"malformed file at byte 0\n"),
     (COMPILE, b"\x0d\x00\x0a\x07\xf1", Status::Malformed, b"malformed file at byte 0\n"),
@@ -210,6 +210,9 @@ const LINES: [(&[&str], &[u8], Status, &[u8]); 12] = [
     (&["list", "x"], VDU_65, Status::ReadFault, b"cannot read x\n"),
     (&["run", "x"], VDU_65_IMAGE, Status::ReadFault, b"cannot read x\n"),
     (&["list"], VDU_65, Status::Usage, USAGE),
+    (&["list", "f", "--steps", "5"], VDU_65, Status::Usage, USAGE),
+    (&["list", "--", "-x"], VDU_65, Status::ReadFault, b"cannot read -x\n"),
+    (&["interp", "f"], VDU_65, Status::Usage, USAGE),
     (CRUNCH, b"10 PRINT 5\n", Status::Done, b""),
     (CRUNCH, b"\nPRINT 1", Status::BadText, b"bad text at line 2\n"),
     (&["crunch", "x", "g"], b"", Status::ReadFault, b"cannot read x\n"),
@@ -355,6 +358,127 @@ fn compiled_images_are_run(rt: HostRuntime) -> Result<(), Fail> {
         let ended = runs_compiled(rt.alloc(), failing)?;
         assert!(rt; ended.is(status, output, line), "{failing}");
     }
+    Ok(())
+}
+
+/// The image of SWI &04, SWI &00 and the end, which writes the first byte of its input, or &FF.
+const READING_IMAGE: &[u8] = b"BVA2\x04\0\0\0\x04\0\0\xef\0\0\0\xef\0\0\xa0\xe3\x11\0\0\xef";
+
+#[rattlefmt::skip]
+/// Words after `run`, and the status, output and line, where `f` is `READING_IMAGE`, `i` is an input of one x, `long` is one
+/// of 1,048,577 bytes, and nothing else is held.
+const OPTIONS: [(&[&str], Status, &[u8], &[u8]); 31] = [
+    (&["f", "--input", "i"], Status::Done, b"x", b""),
+    (&["--input", "i", "f"], Status::Done, b"x", b""),
+    (&["--input=i", "--steps=4", "--", "f"], Status::Done, b"x", b""),
+    (&["--steps", "18446744073709551615", "f", "--input", "i"], Status::Done, b"x", b""),
+    (&["f", "--steps", "0000000000000000000000004"], Status::Done, b"\xff", b""),
+    (&["f", "--steps", "0"], Status::Bound, b"", b"bound 0 reached\n"),
+    (&["f", "--steps", "2"], Status::Bound, b"\xff", b"bound 2 reached\n"),
+    (&["f", "--input", "long"], Status::Limit, b"", b"limit input at 1048577\n"),
+    (&["f", "--input", "x"], Status::ReadFault, b"", b"cannot read x\n"),
+    (&["f", "--input", "-"], Status::ReadFault, b"", b"cannot read -\n"),
+    (&["f", "--input=-y"], Status::ReadFault, b"", b"cannot read -y\n"),
+    (&["f", "--input", ""], Status::ReadFault, b"", b"cannot read \n"),
+    (&["y", "--input", "x"], Status::ReadFault, b"", b"cannot read y\n"),
+    (&["--", "-x"], Status::ReadFault, b"", b"cannot read -x\n"),
+    (&["--", "--input=i"], Status::ReadFault, b"", b"cannot read --input=i\n"),
+    (&["i", "--input", "x"], Status::NotImage, b"", b"not an image at byte 0\n"),
+    (&["f", "--steps", "18446744073709551616"], Status::Usage, b"", USAGE),
+    (&["f", "--steps", "5", "--steps", "6"], Status::Usage, b"", USAGE),
+    (&["f", "--steps", "+5"], Status::Usage, b"", USAGE),
+    (&["f", "--steps", "5x"], Status::Usage, b"", USAGE),
+    (&["f", "--steps", ""], Status::Usage, b"", USAGE),
+    (&["f", "--steps"], Status::Usage, b"", USAGE),
+    (&["f", "--steps="], Status::Usage, b"", USAGE),
+    (&["f", "--input", "i", "--input=i"], Status::Usage, b"", USAGE),
+    (&["f", "--input", "-y"], Status::Usage, b"", USAGE),
+    (&["f", "--input", "--"], Status::Usage, b"", USAGE),
+    (&["f", "--inputs", "i"], Status::Usage, b"", USAGE),
+    (&["f", "--help"], Status::Usage, b"", USAGE),
+    (&["f", "-i"], Status::Usage, b"", USAGE),
+    (&["f", "i"], Status::Usage, b"", USAGE),
+    (&["--", "f", "--input", "i"], Status::Usage, b"", USAGE),
+];
+
+/// A shelf with `READING_IMAGE`, an input and one that is too long.
+fn reading_shelf(alloc: Global) -> Result<MemShelf, Fail> {
+    let mut shelf = MemShelf::new(alloc);
+    shelf.add("f", READING_IMAGE)?;
+    shelf.add("i", b"x")?;
+    let long = vec![in alloc; 0; 1_048_577]?;
+    shelf.add("long", long.as_slice())?;
+    Ok(shelf)
+}
+
+/// How `run` ends with these words after it.
+fn runs_with(alloc: Global, more: &[&str]) -> Result<Ended, Fail> {
+    let mut words = vec![in alloc; "run"]?;
+    words.extend_from_slice(more)?;
+    let mut shelf = reading_shelf(alloc)?;
+    run_into(alloc, words.as_slice(), &mut shelf, 200, 0, 200)
+}
+
+#[test]
+fn options_say_how_an_image_is_run(rt: HostRuntime) -> Result<(), Fail> {
+    for (words, status, output, line) in OPTIONS {
+        let ended = runs_with(rt.alloc(), words)?;
+        assert!(rt; ended.is(status, output, line), "{words:?}");
+    }
+    Ok(())
+}
+
+#[rattlefmt::skip]
+/// The call of the shelf and the write that fail in a run with an input and an arena, the status, the output, the line, and
+/// the number of the arena's bytes that are put.
+const FAILING_RUNS: [(u64, u64, Status, &[u8], &[u8], Option<usize>); 5] = [
+    (0, 0, Status::Done, b"x", b"", Some(524_288)),
+    (1, 0, Status::ReadFault, b"", b"cannot read f\n", None),
+    (2, 0, Status::ReadFault, b"", b"cannot read i\n", None),
+    (3, 0, Status::WriteFault, b"x", b"cannot write\n", None),
+    (0, 1, Status::WriteFault, b"", b"cannot write\n", None),
+];
+
+/// How a run with an input and an arena ends, and the number of the arena's bytes that are put.
+fn runs_failing(alloc: Global, call: u64, write: u64) -> Result<(Ended, Option<usize>), Fail> {
+    let mut shelf = reading_shelf(alloc)?;
+    shelf.fail_at(call)?;
+    let words = ["run", "f", "--input", "i", "--arena", "a"];
+    let ended = run_into(alloc, &words, &mut shelf, 200, write, 200)?;
+    let put = match shelf.take(alloc, "a", 1_000_000) {
+        Ok(bytes) => Some(bytes.len()),
+        Err(_) => None,
+    };
+    Ok((ended, put))
+}
+
+#[test]
+fn runs_fail_in_turn(rt: HostRuntime) -> Result<(), Fail> {
+    for (call, write, status, output, line, arena) in FAILING_RUNS {
+        let (ended, put) = runs_failing(rt.alloc(), call, write)?;
+        assert!(rt;
+            ended.is(status, output, line) && put == arena,
+            "{call} {write}"
+        );
+    }
+    Ok(())
+}
+
+/// The image of MOV R0,#65, MOV R1,#&8000, STRB R0,[R1] and an SWI that user mode knows and the board doesn't: a run that
+/// breaks.
+const STORING_IMAGE: &[u8] =
+    b"BVA2\x04\0\0\0\x41\0\xa0\xe3\x02\x19\xa0\xe3\0\0\xc1\xe5\x41\x01\0\xef";
+
+#[test]
+fn the_arena_is_put_whatever_the_end(rt: HostRuntime) -> Result<(), Fail> {
+    let alloc = rt.alloc();
+    let mut shelf = MemShelf::new(alloc);
+    shelf.add("f", STORING_IMAGE)?;
+    let words = ["run", "--arena=a", "f"];
+    let ended = run_into(alloc, &words, &mut shelf, 200, 0, 200)?;
+    assert!(rt; ended.is(Status::Broken, b"", b"broken swi at &0010000C\n"));
+    let arena = shelf.take(alloc, "a", 524_288)?;
+    assert!(rt; arena.starts_with(b"A\0\0\0"));
     Ok(())
 }
 
