@@ -51,8 +51,8 @@ ArenaTold after (Some name) arena = Tells (after.content name) (Some arena)
 abbrev pub GaveNext : SeenShelf → SeenShelf → Event → List ℕ → List ℕ → Type 0
 GaveNext before after first name bytes = (later : List Event) × (after.log ≡ later ++ Took name bytes ∷ first ∷ before.log)
 
--- These bytes are the input for this call: the shelf gave them after this event, or it holds them and failed at no take; or
--- there is none.
+-- These bytes are the input for this call: the shelf gave them after this event, or it holds them and failed at no take;
+-- or there is none.
 abbrev pub IsInput : SeenShelf → SeenShelf → Event → Option (List ℕ) → List ℕ → Type 0
 IsInput before after first None input = input ≡ []
 IsInput before after first (Some name) input =
@@ -66,7 +66,8 @@ CannotReadInput before after first (Some name) =
     ((after.log ≡ NotTaken name take_errors.Missing ∷ first ∷ before.log) × (before.content name ≡ Some None))
     ⊎ ((after.log ≡ NotTaken name take_errors.Failed ∷ first ∷ before.log) × Rose before.take_faults after.take_faults)
 
--- What such a command promises, where these bytes are one that runs so, and those are refused so.
+-- What such a command promises of the content of a name, where `RunsAs` says which bytes run, and how, and `Refuses` which
+-- are refused.
 pub record RunPromises (RunsAs : List ℕ → Runner → Type 0) (Refuses : List ℕ → Ending → Type 0) (before after : SeenShelf) (out_before out_after : SeenSink) (name : List ℕ) (options : Options) (status : Status) : Type 0 where
   -- Where the run came to its end or to its bound, it is that of what the name holds, on the input; the status and the
   -- output are those of the run; and the shelf gave these contents and was handed the arena, and nothing else.

@@ -1,5 +1,5 @@
--- Running what has an outcome for every input and bound: taking its input, the run, and putting its arena. Why a run ends
--- as it does. This project's own.
+-- Running what has an outcome for every input and bound: taking its input, the run, and putting its arena. Why a run
+-- ends as it does. This project's own.
 use Rattle.std.specs.Prelude.{◌≡◌, ◌≢◌, ◌⊎◌, ℕ, ◌≤◌, List, [], ◌∷◌, length, Option, Some, None}
 use Rattle.bv_base.specs.Limits.{input_bytes}
 use Rattle.bv_io.specs.declared.shelf.PutError.TheVariants as put_errors
@@ -74,9 +74,9 @@ ArenaFaults before after None arena = ⊥
 ArenaFaults before after (Some name) arena =
     (after.log ≡ NotPut name arena put_errors.Failed ∷ before.log) × Rose before.put_faults after.put_faults × OthersSame before after name
 
--- Why a run with this outcome ends so, from where its input was taken. Memory ran out before it began; or for putting the
--- arena, once all output was written; the output failed, and the arena wasn't put; the shelf failed at the arena; or the run
--- came to its end or to the bound, and its output and its arena are outside.
+-- Why a run with this outcome ends so, from where its input was taken. Memory ran out before it began; or for putting
+-- the arena, once all output was written; the output failed, and the arena wasn't put; the shelf failed at the arena; or
+-- the run came to its end or to the bound, and its output and its arena are outside.
 abbrev pub RunEnds : Outcome → Option (List ℕ) → ℕ → SeenShelf → SeenShelf → SeenSink → SeenSink → Ending → Type 0
 RunEnds outcome arena bound before after out_before out_after ending =
     ((ending ≡ Refused refusals.NoMemory) × (after ≡ before) × Silent out_before out_after)
@@ -85,17 +85,17 @@ RunEnds outcome arena bound before after out_before out_after ending =
     ⊎ (((ending ≡ WriteFault) × WritesRun outcome out_before out_after × ArenaFaults before after arena (arena_left outcome))
     ⊎ ((ending ≡ Ran (end_of outcome) bound) × WritesRun outcome out_before out_after × PutsArena before after arena (arena_left outcome)))))
 
--- Why a command with these options ends so, from where its program or image was taken and found good: its input could not be
--- taken, or it was, and the run on it ended.
+-- Why a command with these options ends so, from where its program or image was taken and found good: its input could
+-- not be taken, or it was, and the run on it ended.
 abbrev pub RunsWith : Runner → Options → SeenShelf → SeenShelf → SeenSink → SeenSink → Ending → Type 0
 RunsWith runner options before after out_before out_after ending =
     (InputFails before after options.input ending × Calm before after × Silent out_before out_after)
     ⊎ ((input : List ℕ) × (ready : SeenShelf) × TakesInput before ready options.input input × Calm before ready
     × RunEnds (runner input options.steps) options.arena options.steps ready after out_before out_after ending)
 
--- Why a command that runs the content of a name ends so, where these bytes run like this, those are refused like that, and
--- more bytes than these are too long: the content could not be taken; or it was, and it runs; or it was, and is refused, or
--- memory ran out for it.
+-- Why a command that runs the content of a name ends so, where `RunsAs` says which bytes run, and how, `Refuses` which
+-- are refused, and `max` how many there may be: the content could not be taken; or it was, and it runs; or it was, and is
+-- refused, or memory ran out for it.
 abbrev pub EndsRunning : (List ℕ → Runner → Type 0) → (List ℕ → Ending → Type 0) → ℕ → Refusal → SeenShelf → SeenShelf → SeenSink → SeenSink → List ℕ → Options → Ending → Type 0
 EndsRunning RunsAs Refuses max too_long before after out_before out_after name options ending =
     (TakeFails before after name max too_long ending × Calm before after × Silent out_before out_after)

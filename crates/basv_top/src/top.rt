@@ -1,6 +1,6 @@
 //! The program: what its words ask for, and how it ends.
 ghost use Rattle.std.specs.Prelude.{◌≡◌, ◌≢◌, ◌⊎◌, ℕ, List, None, Some, map, string_bytes};
-ghost use Rattle.basv_words.specs.Command.{Options as AreOptions, Listing as IsList, Compile as IsCompile, Run as IsRun, Crunch as IsCrunch, command_of};
+ghost use Rattle.basv_words.specs.Command.{Options, Listing, Compile, Run, Crunch, command_of};
 ghost use Rattle.basv_top.specs.CompileCommand.{Compiles};
 ghost use Rattle.basv_top.specs.CrunchCommand.{Crunches};
 ghost use Rattle.basv_top.specs.Ending.{told, status_of};
@@ -42,11 +42,11 @@ fn carry_out<'a, S: Shelf, O: Sink>(
 }
 
 /// The program `basv`, on the words after its name. `list FILE` writes the listing of the tokenised program that the
-/// shelf holds under FILE to `out`. `compile FILE IMAGE` puts that program's image file under IMAGE. `run IMAGE` runs
-/// the image that the shelf holds under IMAGE on the board, and writes its output to `out`; with `--input F` its input is
-/// what the shelf holds under F, with `--steps N` it ends after N instructions, and with `--arena F` the arena is put under
-/// F after the run. `crunch TEXT FILE` puts the tokenised file of a program's text under FILE. Where the command, or the program that ran, isn't done,
-/// one line on `err` says why.
+/// shelf holds under FILE to `out`. `compile FILE IMAGE` puts that program's image file under IMAGE. `run IMAGE` runs the
+/// image that the shelf holds under IMAGE on the board, and writes its output to `out`; with `--input F` its input is what
+/// the shelf holds under F, with `--steps N` it ends after N instructions, and with `--arena F` the arena is put under F
+/// after the run. `crunch TEXT FILE` puts the tokenised file of a program's text under FILE. Where the command, or the
+/// program that ran, isn't done, one line on `err` says why.
 pub fn basv<S: Shelf, O: Sink, E: Sink>(
     alloc: Global,
     words: &[String],
@@ -56,16 +56,16 @@ pub fn basv<S: Shelf, O: Sink, E: Sink>(
 ) -> Status
     // The headline is in `Compiles`: where a compile is done, the file that the shelf gave is accepted as one program,
     // and the image that it was handed agrees with that program on every input.
-    ensures compile { (file image : List ℕ) → command_of (map string_bytes words.now) ≡ Some (IsCompile file image)
+    ensures compile { (file image : List ℕ) → command_of (map string_bytes words.now) ≡ Some (Compile file image)
         → Compiles (seen_shelf S.Shelf shelf.old) (seen_shelf S.Shelf shelf.new)
         (seen_sink O.Sink out.old) (seen_sink O.Sink out.new) file image result }
-    ensures list { (file : List ℕ) → command_of (map string_bytes words.now) ≡ Some (IsList file)
+    ensures list { (file : List ℕ) → command_of (map string_bytes words.now) ≡ Some (Listing file)
         → Lists (seen_shelf S.Shelf shelf.old) (seen_shelf S.Shelf shelf.new)
         (seen_sink O.Sink out.old) (seen_sink O.Sink out.new) file result }
-    ensures run { (image : List ℕ) (options : AreOptions) → command_of (map string_bytes words.now) ≡ Some (IsRun image options)
+    ensures run { (image : List ℕ) (options : Options) → command_of (map string_bytes words.now) ≡ Some (Run image options)
         → Runs (seen_shelf S.Shelf shelf.old) (seen_shelf S.Shelf shelf.new)
         (seen_sink O.Sink out.old) (seen_sink O.Sink out.new) image options result }
-    ensures crunch { (text file : List ℕ) → command_of (map string_bytes words.now) ≡ Some (IsCrunch text file)
+    ensures crunch { (text file : List ℕ) → command_of (map string_bytes words.now) ≡ Some (Crunch text file)
         → Crunches (seen_shelf S.Shelf shelf.old) (seen_shelf S.Shelf shelf.new)
         (seen_sink O.Sink out.old) (seen_sink O.Sink out.new) text file result }
 
