@@ -192,6 +192,9 @@ fn images_are_run(rt: HostRuntime) -> Result<(), Fail> {
 const USAGE: &[u8] =
     b"usage: basv list FILE / compile FILE IMAGE / interp FILE / run IMAGE / selftest SEED LINES / crunch TEXT FILE\n";
 
+/// The image of a branch to itself.
+const LOOPING_IMAGE: &[u8] = b"BVA2\x01\0\0\0\xfe\xff\xff\xea";
+
 const LIST: &[&str] = &["list", "f"];
 
 const COMPILE: &[&str] = &["compile", "f", "i"];
@@ -200,7 +203,7 @@ const CRUNCH: &[&str] = &["crunch", "f", "g"];
 
 #[rattlefmt::skip]
 /// Words, the content of `f`, and the status and the line of a command that writes nothing to the output.
-const LINES: [(&[&str], &[u8], Status, &[u8]); 15] = [
+const LINES: [(&[&str], &[u8], Status, &[u8]); 18] = [
     (COMPILE, VDU_65, Status::Done, b""),
     (COMPILE, b"", Status::Malformed, b"malformed file at byte 0\n"),
     (COMPILE, b"\x0d\x00\x0a\x07\xf1", Status::Malformed, b"malformed file at byte 0\n"),
@@ -209,10 +212,13 @@ const LINES: [(&[&str], &[u8], Status, &[u8]); 15] = [
     (COMPILE, b"\x0d\x00\x0a\x07A=1\x0d\xff", Status::Outside, b"outside the profile at line 10\n"),
     (&["list", "x"], VDU_65, Status::ReadFault, b"cannot read x\n"),
     (&["run", "x"], VDU_65_IMAGE, Status::ReadFault, b"cannot read x\n"),
+    (&[], VDU_65, Status::Usage, USAGE),
+    (&["--help"], VDU_65, Status::Usage, USAGE),
     (&["list"], VDU_65, Status::Usage, USAGE),
     (&["list", "f", "--steps", "5"], VDU_65, Status::Usage, USAGE),
     (&["list", "--", "-x"], VDU_65, Status::ReadFault, b"cannot read -x\n"),
     (&["interp", "f"], VDU_65, Status::Usage, USAGE),
+    (&["run", "f", "--steps", "1000"], LOOPING_IMAGE, Status::Bound, b"bound 1000 reached\n"),
     (CRUNCH, b"10 PRINT 5\n", Status::Done, b""),
     (CRUNCH, b"\nPRINT 1", Status::BadText, b"bad text at line 2\n"),
     (&["crunch", "x", "g"], b"", Status::ReadFault, b"cannot read x\n"),
@@ -464,8 +470,8 @@ fn runs_fail_in_turn(rt: HostRuntime) -> Result<(), Fail> {
     Ok(())
 }
 
-/// The image of MOV R0,#65, MOV R1,#&8000, STRB R0,[R1] and an SWI that user mode knows and the board doesn't: a run that
-/// breaks.
+/// The image of MOV R0,#65, MOV R1,#&8000, STRB R0,[R1] and an SWI that user mode knows and the board doesn't: a run
+/// that breaks.
 const STORING_IMAGE: &[u8] =
     b"BVA2\x04\0\0\0\x41\0\xa0\xe3\x02\x19\xa0\xe3\0\0\xc1\xe5\x41\x01\0\xef";
 
