@@ -1,0 +1,49 @@
+-- The variables of a program, and where each of them is kept (BBC BASIC Reference Manual, resident integer variables).
+use Rattle.std.specs.Prelude.{ℕ, ◌-◌, ◌==◌, ◌&&◌, ℤ, List, [], ◌∷◌, Option, None, Some, nat_le, slice_get, if◌then◌else◌}
+use Rattle.bas_ast.specs.declared.program.Name.{Name}
+use Rattle.bas_ast.specs.declared.targets.SimpleVariable.{SimpleVariable}
+use Rattle.bas_ast.specs.declared.targets.SimpleVariable.TheVariants as simple
+
+-- A value: a number, or the bytes of a string.
+pub data Value : Type 0 where
+  Number : (value : ℤ) → Value
+  Text : (text : List ℕ) → Value
+
+-- A variable's cell: a resident integer, or that of the name at a place among the program's names.
+pub data Cell : Type 0 where
+  Resident : (index : ℕ) → Cell
+  Integer : (name : ℕ) → Cell
+  String : (name : ℕ) → Cell
+
+-- the number of resident integers: A% to Z%, and then @%
+abbrev pub residents : ℕ
+residents = 27
+
+-- the place among the residents of the name of two bytes, if it is one of them
+abbrev pub resident_of_two : ℕ → ℕ → Option ℕ
+resident_of_two first suffix =
+    if (nat_le 65 first && nat_le first 90) && (suffix == 37) then Some (first - 65)
+    else if (first == 64) && (suffix == 37) then Some 26
+    else None
+
+-- the place of a name among the residents
+abbrev pub resident_of : List ℕ → Option ℕ
+resident_of (first ∷ suffix ∷ []) = resident_of_two first suffix
+resident_of _ = None
+
+-- the cell of an integer with the name at a place, which may be a resident
+abbrev pub cell_by : Option ℕ → ℕ → Cell
+cell_by None name = Integer name
+cell_by (Some index) name = Resident index
+
+abbrev pub text_of_name : Option Name → List ℕ
+text_of_name None = []
+text_of_name (Some name) = name.text
+
+abbrev pub integer_cell : List Name → ℕ → Cell
+integer_cell names name = cell_by (resident_of (text_of_name (slice_get names name))) name
+
+-- the cell of a variable
+abbrev pub cell_of : List Name → SimpleVariable → Cell
+cell_of names (simple.Number name) = integer_cell names name
+cell_of names (simple.Text name) = String name
