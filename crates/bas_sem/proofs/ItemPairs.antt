@@ -1,0 +1,138 @@
+-- What more steps change in an expression and in an item, whose calls come to the same.
+use Rattle.std.proofs.Common.{ℕ, ◌+◌, List, [], ◌∷◌, Option, None, Some}
+use Rattle.std.specs.Prelude.{ℤ, pos, Bool, true, false}
+use Rattle.bas_ast.specs.declared.expressions.NumExpr.{NumExpr, more_of-NumExpr as held}
+use Rattle.bas_ast.specs.declared.expressions.NumExpr.TheVariants as num
+use Rattle.bas_ast.specs.declared.expressions.StrExpr.{StrExpr}
+use Rattle.bas_ast.specs.declared.expressions.StrExpr.TheVariants as str
+use Rattle.bas_ast.specs.declared.expressions.Variable.TheVariants as var
+use Rattle.bas_ast.specs.declared.lines.Item.{Item}
+use Rattle.bas_ast.specs.declared.lines.Item.TheVariants as item
+use Rattle.bas_ast.specs.declared.program.Prog.{Prog}
+use Rattle.bas_ast.specs.declared.statements.Assignment.{Assignment}
+use Rattle.bas_ast.specs.declared.statements.Assignment.TheVariants as assigns
+use Rattle.bas_ast.specs.declared.statements.Flow.{Flow}
+use Rattle.bas_ast.specs.declared.statements.Flow.TheVariants as flow
+use Rattle.bas_ast.specs.declared.statements.Output.{Output}
+use Rattle.bas_ast.specs.declared.statements.Output.TheVariants as writes
+use Rattle.bas_ast.specs.declared.statements.PrintPart.{PrintPart}
+use Rattle.bas_ast.specs.declared.statements.PrintPart.TheVariants as prints
+use Rattle.bas_ast.specs.declared.statements.Stmt.{Stmt}
+use Rattle.bas_ast.specs.declared.statements.Stmt.TheVariants as stmt
+use Rattle.bas_ast.specs.declared.statements.VduPart.{VduPart}
+use Rattle.bas_ast.specs.declared.statements.VduPart.TheVariants as sends
+use Rattle.bas_ast.specs.declared.targets.NumTarget.TheVariants as target
+use Rattle.bas_store.specs.Cells.{Value as Content, Cell}
+use Rattle.bas_value.specs.Errors.{no_such_line, stopped}
+use Rattle.bas_value.specs.Output as out
+use Rattle.bv_run.specs.declared.report.Report.TheVariants.{Done}
+use Rattle.bas_sem.specs.Course.{Action, ◌>>=◌, ◌>>◌}
+use Rattle.bas_sem.specs.Actions.{outside, read, assign, write, or_raise}
+use Rattle.bv_num.specs.Operation.{Operation, operation, Add, Subtract}
+use Rattle.bas_sem.specs.Calls.{Calls, Kind, Level, Body, Next, GoOn}
+use Rattle.bas_sem.specs.Evaluate.{evaluate, evaluate_text}
+use Rattle.bas_sem.specs.Operators.{of_one, of_two}
+use Rattle.bas_sem.specs.Items.{assignment, go_to, goes, finish, print, vdu, output, statement, execute_item}
+use Rattle.bas_sem.proofs.Longer.{Pair, bind_pair, then_pair, give_pair, over_pair, write_pair, column_pair, change_pair, read_pair, or_raise_pair, raise_pair}
+
+-- Calls that come to the same.
+pub record CallsPair (d f g : ℕ) (calls calls' : Calls) : Type 0 where
+  pub of : (line : ℕ) (kind : Kind) (body : Body) (values : List Content) → Pair d f g (calls line kind body values) (calls' line kind body values)
+
+module _ (prog : Prog) (d f g : ℕ) (calls calls' : Calls) (same : CallsPair d f g calls calls') where
+  outside_pair : (A : Type 0) → Pair {A = A} d f g outside outside
+  outside_pair A = over_pair A d f g Done
+
+  pub evaluate_pair : (line : ℕ) (x : NumExpr) → Pair d f g (evaluate prog calls line x) (evaluate prog calls' line x)
+  unfolding evaluate
+  evaluate_pair line (num.Number value) = give_pair d f g value
+  evaluate_pair line num.True = give_pair d f g _
+  evaluate_pair line num.False = give_pair d f g _
+  evaluate_pair line num.Count = bind_pair d f g _ _ _ _ (column_pair d f g) (λ column. give_pair d f g (pos column))
+  evaluate_pair line (num.Variable (var.Simple name)) = read_pair d f g line _
+  evaluate_pair line (num.Bracket' _ (held x _)) = evaluate_pair line x
+  evaluate_pair line (num.Unary' op _ (held x _)) = bind_pair d f g _ _ _ _ (evaluate_pair line x) (λ value. or_raise_pair d f g line (of_one op value))
+  evaluate_pair line (num.Binary' op _ (held x _) _ (held y _)) =
+      bind_pair d f g _ _ _ _ (evaluate_pair line x) (λ left. bind_pair d f g _ _ _ _ (evaluate_pair line y) (λ right. or_raise_pair d f g line (of_two op left right)))
+  evaluate_pair line _ = outside_pair ℤ
+
+  text_pair : (line : ℕ) (x : StrExpr) → Pair d f g (evaluate_text prog calls line x) (evaluate_text prog calls' line x)
+  text_pair line (str.Literal number) = give_pair d f g _
+  text_pair line _ = outside_pair (List ℕ)
+
+  -- a number is evaluated and then written
+  written_pair : (line : ℕ) (x : NumExpr) (part : ℤ → out.Part) → Pair d f g (evaluate prog calls line x >>= (λ v. write (part v))) (evaluate prog calls' line x >>= (λ v. write (part v)))
+  written_pair line x part = bind_pair d f g _ _ _ _ (evaluate_pair line x) (λ v. write_pair d f g (part v))
+
+  -- the same, before others
+  written_then_pair : {A : Type 0} (line : ℕ) (x : NumExpr) (part : ℤ → out.Part) (n n' : Action A) → Pair d f g n n'
+      → Pair d f g (evaluate prog calls line x >>= (λ v. write (part v) >> n)) (evaluate prog calls' line x >>= (λ v. write (part v) >> n'))
+  written_then_pair line x part n n' others =
+      bind_pair d f g _ _ _ _ (evaluate_pair line x) (λ v. then_pair d f g _ _ _ _ (write_pair d f g (part v)) others)
+
+  finish_pair : (new_line : Bool) → Pair d f g (finish new_line) (finish new_line)
+  finish_pair true = write_pair d f g out.NewLine
+  finish_pair false = give_pair d f g tt
+
+  pub print_pair : (line : ℕ) (padded new_line : Bool) (parts : List PrintPart) → Pair d f g (print prog calls line padded new_line parts) (print prog calls' line padded new_line parts)
+  unfolding print
+  print_pair line padded new_line [] = finish_pair new_line
+  print_pair line padded new_line (prints.Comma ∷ parts) = then_pair d f g _ _ _ _ (write_pair d f g out.Field) (print_pair line true true parts)
+  print_pair line padded new_line (prints.Semicolon ∷ parts) = print_pair line false false parts
+  print_pair line padded new_line (prints.NewLine ∷ parts) = then_pair d f g _ _ _ _ (write_pair d f g out.NewLine) (print_pair line padded true parts)
+  print_pair line padded new_line (prints.Number format x ∷ parts) = written_then_pair line x (out.Number padded format) _ _ (print_pair line padded true parts)
+  print_pair line padded new_line (prints.Text x ∷ parts) =
+      bind_pair d f g _ _ _ _ (text_pair line x) (λ text. then_pair d f g _ _ _ _ (write_pair d f g (out.Text text)) (print_pair line padded true parts))
+  print_pair line padded new_line (prints.Spaces x ∷ parts) = written_then_pair line x out.Spaces _ _ (print_pair line padded true parts)
+  print_pair line padded new_line (prints.Tab x ∷ parts) = written_then_pair line x out.Tab _ _ (print_pair line padded true parts)
+
+  pub vdu_pair : (line : ℕ) (parts : List VduPart) → Pair d f g (vdu prog calls line parts) (vdu prog calls' line parts)
+  unfolding vdu
+  vdu_pair line [] = give_pair d f g tt
+  vdu_pair line (sends.Byte x ∷ parts) = written_then_pair line x out.Byte _ _ (vdu_pair line parts)
+  vdu_pair line (sends.Word x ∷ parts) = written_then_pair line x out.Word _ _ (vdu_pair line parts)
+
+  output_pair : (line : ℕ) (o : Output) → Pair d f g (output prog calls line o) (output prog calls' line o)
+  output_pair line (writes.Print parts) = print_pair line true true parts
+  output_pair line (writes.Vdu parts) = vdu_pair line parts
+  output_pair line (writes.Mode x) = written_pair line x out.Mode
+  output_pair line (writes.Colour x) = written_pair line x out.Colour
+  output_pair line writes.Cls = write_pair d f g out.Clear
+
+  -- `+=` and `-=`
+  updated_pair : (line : ℕ) (cell : Cell) (op : Operation) (x : NumExpr)
+      → Pair d f g (read line cell >>= (λ old. evaluate prog calls line x >>= (λ value. or_raise line (operation op old value) >>= assign cell)))
+      (read line cell >>= (λ old. evaluate prog calls' line x >>= (λ value. or_raise line (operation op old value) >>= assign cell)))
+  updated_pair line cell op x =
+      bind_pair d f g _ _ _ _ (read_pair d f g line cell) (λ old. bind_pair d f g _ _ _ _ (evaluate_pair line x)
+      (λ value. bind_pair d f g _ _ _ _ (or_raise_pair d f g line (operation op old value)) (λ new. change_pair d f g _)))
+
+  assignment_pair : (line : ℕ) (a : Assignment) → Pair d f g (assignment prog calls line a) (assignment prog calls' line a)
+  assignment_pair line (assigns.Number (target.Variable (var.Simple name)) x) = bind_pair d f g _ _ _ _ (evaluate_pair line x) (λ value. change_pair d f g _)
+  assignment_pair line (assigns.Add (target.Variable (var.Simple name)) x) = updated_pair line _ Add x
+  assignment_pair line (assigns.Subtract (target.Variable (var.Simple name)) x) = updated_pair line _ Subtract x
+  assignment_pair line _ = outside_pair (Unit {0})
+
+  go_to_pair : (o : Option ℕ) (line : ℕ) → Pair d f g (go_to o line) (go_to o line)
+  go_to_pair None line = raise_pair Next d f g no_such_line line
+  go_to_pair (Some place) line = give_pair d f g (GoOn place)
+
+  goes_pair : (line : ℕ) (w : Flow) → Pair d f g (goes prog line w) (goes prog line w)
+  goes_pair line (flow.Goto number) = go_to_pair _ line
+  goes_pair line flow.End = over_pair Next d f g Done
+  goes_pair line flow.Quit = over_pair Next d f g Done
+  goes_pair line flow.Stop = raise_pair Next d f g stopped line
+  goes_pair line _ = outside_pair Next
+
+  statement_pair : (place line : ℕ) (s : Stmt) → Pair d f g (statement prog calls place line s) (statement prog calls' place line s)
+  statement_pair place line (stmt.Assign a) = then_pair d f g _ _ _ _ (assignment_pair line a) (give_pair d f g (GoOn (place + 1)))
+  statement_pair place line (stmt.Flow w) = goes_pair line w
+  statement_pair place line (stmt.Output o) = then_pair d f g _ _ _ _ (output_pair line o) (give_pair d f g (GoOn (place + 1)))
+  statement_pair place line _ = outside_pair Next
+
+  pub item_pair : (level : Level) (place line : ℕ) (i : Item) → Pair d f g (execute_item prog calls level place line i) (execute_item prog calls' level place line i)
+  item_pair level place line (item.Stmt s) = statement_pair place line s
+  item_pair level place line (item.If x) = bind_pair d f g _ _ _ _ (evaluate_pair line x) (λ value. give_pair d f g _)
+  item_pair level place line item.Else = give_pair d f g _
+  item_pair level place line item.Remark = give_pair d f g (GoOn (place + 1))
+  item_pair level place line _ = outside_pair Next

@@ -1,0 +1,5 @@
+mod Examples
+pub mod Longer
+pub mod ItemPairs
+pub mod CallPairs
+pub mod Runs

@@ -1,0 +1,10 @@
+pub mod State
+pub mod Course
+pub mod Actions
+pub mod Places
+pub mod Operators
+pub mod Calls
+pub mod Evaluate
+pub mod Items
+pub mod Meaning
+pub mod Laws
