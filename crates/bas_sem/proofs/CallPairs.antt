@@ -8,7 +8,7 @@ use Rattle.bv_run.specs.Outcome.{IsPrefix}
 use Rattle.bas_sem.specs.State.{State}
 use Rattle.bas_sem.specs.Course.{Course, Value, Raised, Over, Spent, Action, on_value, ◌>>◌}
 use Rattle.bas_sem.specs.Actions.{take_step, spend}
-use Rattle.bas_sem.specs.Calls.{Kind, Level, Body, Next, GoOn, Leave, onward, taken_here, handled, handling, call_ended, ended, cells_saved, values_assigned, has_room, enter, call}
+use Rattle.bas_sem.specs.Calls.{Kind, Level, Body, Next, GoOn, Leave, onward, taken_here, handled, handling, call_ended, ended, slots_saved, values_assigned, has_room, enter, call}
 use Rattle.bas_sem.proofs.Longer.{more, more-zero, state_in, prefix_refl, prefix_trans, After, after_trans, stays, Grows, Longer, Pair, bind_pair, then_pair, give_pair, look_pair, change_pair, handler_now_pair, raise_pair}
 use Rattle.bas_sem.proofs.ItemPairs.{CallsPair}
 
@@ -109,7 +109,7 @@ enter_pair : (d f g : ℕ) (execute execute' : Level → ℕ → Action (Option 
     → Pair d f g (enter fits execute level line kind body values) (enter fits execute' level line kind body values)
 enter_pair d f g execute execute' same false level line kind body values = raise_pair (Option Content) d f g no_room line
 enter_pair d f g execute execute' same true level line kind body values =
-    then_pair d f g _ _ _ _ (change_pair d f g (λ s. values_assigned body.formals values (cells_saved (suc level.depth) body.formals s)))
+    then_pair d f g _ _ _ _ (change_pair d f g (λ s. values_assigned body.formals values (slots_saved (suc level.depth) body.formals s)))
     (bind_pair d f g _ _ _ _ (handler_now_pair d f g) (λ entry. ended_pair d f g (suc level.depth) entry _ _
     (step_pair None d f g f g _ _ (omega arith) (omega arith) (same.of (record { kind = kind; depth = suc level.depth }) body.at))))
 

@@ -174,15 +174,15 @@ module _ (prog : Prog) where
   shown_kept d (Over p s) r' is = ap outcome_of is
   shown_kept d (Spent s) r' is = subst (IsPrefix s.output) (sym (shown_output r')) is.0
 
-  pub source_run-is : (input : List ℕ) (n : ℕ) → source_run prog input n ≡ outcome_of (execute prog n outermost 0 (start prog input n))
+  pub source_run-is : (input : List ℕ) (n : ℕ) → source_run prog input n ≡ outcome_of (execute prog n outermost 0 (start prog.names input n))
   unfolding source_run
   source_run-is input n = refl
 
   pub bound_kept : BoundKept prog
   bound_kept input n d =
       subst (λ r. IsKept r (source_run prog input (n + d))) (sym (source_run-is input n))
-      (subst (IsKept (outcome_of (execute prog n outermost 0 (start prog input n)))) (sym (source_run-is input (n + d)))
-      (shown_kept d _ _ ((execute_pair d n (n + d) outermost 0).longer (start prog input n) (omega arith) (omega arith))))
+      (subst (IsKept (outcome_of (execute prog n outermost 0 (start prog.names input n)))) (sym (source_run-is input (n + d)))
+      (shown_kept d _ _ ((execute_pair d n (n + d) outermost 0).longer (start prog.names input n) (omega arith) (omega arith))))
 
   -- an end stays
   pub end_stays : (input : List ℕ) (n d : ℕ) (out arena : List ℕ) (report : Report) → source_run prog input n ≡ outcomes.Over out arena report
@@ -274,4 +274,4 @@ module _ (prog : Prog) where
   execute_ends (suc f) place s = subst (λ m. IsEnd (m s)) (sym (execute-suc f outermost place)) (row_ends (execute prog f) (execute_ends f) place (row_at prog place) s)
 
   pub outermost_ends : OutermostEnds prog
-  outermost_ends input n = execute_ends n 0 (start prog input n)
+  outermost_ends input n = execute_ends n 0 (start prog.names input n)

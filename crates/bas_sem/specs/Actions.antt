@@ -1,7 +1,7 @@
 -- The small actions that items and expressions are made of. The flat code's operations are made of the same.
 use Rattle.std.specs.Prelude.{ℕ, zero, suc, ◌==◌, ℤ, pos, Bool, true, false, List, [], ◌++◌, Option, None, Some, Result, Ok, Err, if◌then◌else◌}
 use Rattle.std.specs.Ordering.{int_eq}
-use Rattle.bas_store.specs.Cells.{Cell}
+use Rattle.bas_store.specs.Cells.{Cell, Slot}
 use Rattle.bas_store.specs.Stored as store
 use Rattle.bas_store.specs.Stored.{Stored, Handler, ForAll, ForCall, Saved}
 use Rattle.bas_value.specs.Errors.{error_text, unknown_variable, no_room}
@@ -88,13 +88,13 @@ handler_now = λ s. Value s.handler s
 abbrev pub set_handler : Option Handler → Action (Unit {0})
 set_handler handler = λ s. Value tt (record s { handler = handler })
 
--- a call at this depth saves a cell, if there is room for one more value
-abbrev pub save_if : Bool → ℕ → Cell → ℕ → Action (Unit {0})
-save_if false depth cell line = raise no_room line
-save_if true depth cell line = change (store.cell_saved depth cell)
+-- A call at this depth makes a variable and then saves it, if there is room for one more value.
+abbrev pub save_if : Bool → ℕ → Slot → ℕ → Action (Unit {0})
+save_if false depth slot line = raise no_room line
+save_if true depth slot line = change (store.slot_saved depth slot)
 
-abbrev pub save : ℕ → Cell → ℕ → Action (Unit {0})
-save depth cell line = change (store.made cell) >> (look (store.can_save 1) >>= (λ fits. save_if fits depth cell line))
+abbrev pub save : ℕ → Slot → ℕ → Action (Unit {0})
+save depth slot line = change (store.made slot) >> (look (store.can_save 1) >>= (λ fits. save_if fits depth slot line))
 
 -- The handler after a call: the earliest that the call still has saved, or else the one that is set; in place of a local
 -- handler of the call itself, the one at its entry (BBC BASIC Reference Manual, LOCAL ERROR).

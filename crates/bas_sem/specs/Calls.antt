@@ -1,6 +1,6 @@
 -- Calls of procedures and functions (BBC BASIC Reference Manual: DEF, PROC, FN, LOCAL). The limits are this project's own.
 use Rattle.std.specs.Prelude.{ℕ, suc, Bool, true, false, ◌&&◌, List, [], ◌∷◌, Option, None, length, nat_lt, nat_le}
-use Rattle.bas_store.specs.Cells.{Value as Content, Cell}
+use Rattle.bas_store.specs.Cells.{Value as Content, Slot}
 use Rattle.bas_store.specs.Stored as store
 use Rattle.bas_store.specs.Stored.{Stored, Handler}
 use Rattle.bas_value.specs.Errors.{no_room}
@@ -23,7 +23,7 @@ outermost = record { kind = Outermost; depth = 0 }
 -- the body of a definition: the place of its first item, and its formals
 pub record Body : Type 0 where
   pub at : ℕ
-  pub formals : List Cell
+  pub formals : List Slot
 
 -- What the calls of an expression or an item do, at a line: a body is called with values, and gives a function's value.
 abbrev pub Calls : Type 0
@@ -68,15 +68,15 @@ abbrev pub ended : ℕ → Option Handler → Action (Option Content) → Action
 ended depth entry m = λ s. call_ended depth entry (m s)
 
 -- the formals are saved for the call at a depth, left to right
-abbrev pub cells_saved : ℕ → List Cell → Stored → Stored
-cells_saved depth [] s = s
-cells_saved depth (cell ∷ cells) s = cells_saved depth cells (store.cell_saved depth cell s)
+abbrev pub slots_saved : ℕ → List Slot → Stored → Stored
+slots_saved depth [] s = s
+slots_saved depth (slot ∷ slots) s = slots_saved depth slots (store.slot_saved depth slot s)
 
 -- and assigned, left to right
-abbrev pub values_assigned : List Cell → List Content → Stored → Stored
-values_assigned (cell ∷ cells) (value ∷ values) s = values_assigned cells values (store.with_value cell value s)
+abbrev pub values_assigned : List Slot → List Content → Stored → Stored
+values_assigned (slot ∷ slots) (value ∷ values) s = values_assigned slots values (store.with_value slot value s)
 values_assigned [] values s = s
-values_assigned cells [] s = s
+values_assigned slots [] s = s
 
 -- whether one more call can be open, with its formals saved
 abbrev pub has_room : ℕ → ℕ → Stored → Bool
@@ -87,7 +87,7 @@ has_room depth formals s = nat_lt depth store.most_calls && store.can_save forma
 abbrev pub enter : Bool → (Level → ℕ → Action (Option Content)) → Level → Calls
 enter false execute level line kind body values = raise no_room line
 enter true execute level line kind body values = do
-  change (λ s. values_assigned body.formals values (cells_saved (suc level.depth) body.formals s))
+  change (λ s. values_assigned body.formals values (slots_saved (suc level.depth) body.formals s))
   entry ← handler_now
   ended (suc level.depth) entry (take_step None >> execute (record { kind = kind; depth = suc level.depth }) body.at)
 

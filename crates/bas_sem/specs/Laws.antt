@@ -48,4 +48,4 @@ IsEnd (courses.Spent s) = Unit {0}
 
 -- the outermost level is never left, and no error passes it
 abbrev pub OutermostEnds : Prog → Type 0
-OutermostEnds prog = (input : List ℕ) (n : ℕ) → IsEnd (execute prog n outermost 0 (start prog input n))
+OutermostEnds prog = (input : List ℕ) (n : ℕ) → IsEnd (execute prog n outermost 0 (start prog.names input n))

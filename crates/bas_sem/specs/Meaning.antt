@@ -36,4 +36,4 @@ outcome_of (Spent s) = outcomes.Going s.output s.arena
 
 -- the run of a program on an input, at a bound of n steps
 unfoldable pub source_run : Prog → List ℕ → ℕ → Outcome
-source_run prog input n = outcome_of (execute prog n outermost 0 (start prog input n))
+source_run prog input n = outcome_of (execute prog n outermost 0 (start prog.names input n))

@@ -1,7 +1,7 @@
 -- The state of a run of a program. This project's own, but for what the language names (BBC BASIC Reference Manual: COUNT,
 -- DATA, DIM, ERR, ERL, ON ERROR, REPORT).
 use Rattle.std.specs.Prelude.{ℕ, ℤ, pos, List, [], Option, None}
-use Rattle.bas_ast.specs.declared.program.Prog.{Prog}
+use Rattle.bas_ast.specs.declared.program.Name.{Name}
 use Rattle.bas_store.specs.Stored.{Stored, Handler, nothing_stored}
 use Rattle.bv_base.specs.Bytes.{zeros}
 use Rattle.bv_base.specs.MemoryMap.{arena_start, arena_bytes}
@@ -32,10 +32,10 @@ pub record State : Type 0 where
   pub left : ℕ
   pub latest : Option ℕ
 
--- the state in which a run of n steps begins
-abbrev pub start : Prog → List ℕ → ℕ → State
-start prog input n = record {
-  stored = nothing_stored prog.names;
+-- the state in which a run of n steps begins, of a program with these names
+abbrev pub start : List Name → List ℕ → ℕ → State
+start names input n = record {
+  stored = nothing_stored names;
   arena = zeros arena_bytes;
   divided = arena_start;
   column = 0;

@@ -9,11 +9,15 @@ pub data Value : Type 0 where
   Number : (value : ℤ) → Value
   Text : (text : List ℕ) → Value
 
--- A variable's cell: a resident integer, or that of the name at a place among the program's names.
+-- The cell of an integer: a resident, or that of the name at a place among the program's names.
 pub data Cell : Type 0 where
   Resident : (index : ℕ) → Cell
   Integer : (name : ℕ) → Cell
-  String : (name : ℕ) → Cell
+
+-- Where a simple variable is kept: an integer's cell, or the string of the name at a place.
+pub data Slot : Type 0 where
+  OfNumber : (cell : Cell) → Slot
+  OfText : (name : ℕ) → Slot
 
 -- the number of resident integers: A% to Z%, and then @%
 abbrev pub residents : ℕ
@@ -43,7 +47,7 @@ text_of_name (Some name) = name.text
 abbrev pub integer_cell : List Name → ℕ → Cell
 integer_cell names name = cell_by (resident_of (text_of_name (slice_get names name))) name
 
--- the cell of a variable
-abbrev pub cell_of : List Name → SimpleVariable → Cell
-cell_of names (simple.Number name) = integer_cell names name
-cell_of names (simple.Text name) = String name
+-- where a variable is kept
+abbrev pub slot_of : List Name → SimpleVariable → Slot
+slot_of names (simple.Number name) = OfNumber (integer_cell names name)
+slot_of names (simple.Text name) = OfText name

@@ -2,7 +2,7 @@
 -- variables and the words that open and close (BBC BASIC Reference Manual: variables, LOCAL, FOR, REPEAT, WHILE, GOSUB).
 use Rattle.std.specs.Prelude.{ℕ, ◌+◌, ◌-◌, ◌==◌, ℤ, pos, Bool, List, [], ◌∷◌, Option, None, Some, length, drop, replicate, slice_index_or, slice_set, nat_lt, if◌then◌else◌}
 use Rattle.bas_ast.specs.declared.program.Name.{Name}
-use Rattle.bas_store.specs.Cells.{Value, Number, Text, Cell, Resident, Integer, String, residents}
+use Rattle.bas_store.specs.Cells.{Value, Number, Text, Cell, Resident, Integer, Slot, OfNumber, OfText, residents}
 
 -- Who takes an error: the items of ON ERROR from a place on; or those of ON ERROR LOCAL, in the call that set it, which had
 -- this number of entries open.
@@ -15,9 +15,9 @@ pub record Array : Type 0 where
   pub bounds : List ℕ
   pub elements : List Value
 
--- What is saved: a cell's value, or the handler.
+-- What is saved: a variable's value, or the handler.
 pub data Kept : Type 0 where
-  Old : (cell : Cell) (value : Value) → Kept
+  Old : (slot : Slot) (value : Value) → Kept
   Handling : (handler : Option Handler) → Kept
 
 -- a saved value, with the depth of the call that saved it
@@ -77,31 +77,28 @@ most_opened = 4096
 abbrev pub number_in : Cell → Stored → Option ℤ
 number_in (Resident index) s = Some (slice_index_or s.residents index (pos 0))
 number_in (Integer name) s = slice_index_or s.integers name None
-number_in (String name) s = None
 
--- the string in a cell
-abbrev pub string_in : Cell → Stored → Option (List ℕ)
-string_in (Resident index) s = None
-string_in (Integer name) s = None
-string_in (String name) s = slice_index_or s.strings name None
+-- the string of a name, None where it was never made
+abbrev pub string_in : ℕ → Stored → Option (List ℕ)
+string_in name s = slice_index_or s.strings name None
 
 -- a number is stored in a cell, which makes it
 abbrev pub with_number : Cell → ℤ → Stored → Stored
 with_number (Resident index) v s = record s { residents = slice_set s.residents index v }
 with_number (Integer name) v s = record s { integers = slice_set s.integers name (Some v) }
-with_number (String name) v s = s
 
--- a string is stored in a cell
-abbrev pub with_string : Cell → List ℕ → Stored → Stored
-with_string (Resident index) v s = s
-with_string (Integer name) v s = s
-with_string (String name) v s = record s { strings = slice_set s.strings name (Some v) }
+-- a string is stored under a name, which makes it
+abbrev pub with_string : ℕ → List ℕ → Stored → Stored
+with_string name v s = record s { strings = slice_set s.strings name (Some v) }
 
-abbrev pub with_value : Cell → Value → Stored → Stored
-with_value cell (Number v) s = with_number cell v s
-with_value cell (Text v) s = with_string cell v s
+-- a value of its kind is stored in a variable
+abbrev pub with_value : Slot → Value → Stored → Stored
+with_value (OfNumber cell) (Number v) s = with_number cell v s
+with_value (OfText name) (Text v) s = with_string name v s
+with_value (OfNumber cell) (Text v) s = s
+with_value (OfText name) (Number v) s = s
 
--- the value of a cell, 0 or the empty string where it was never made
+-- the value of a variable, 0 or the empty string where it was never made
 abbrev pub or_zero : Option ℤ → ℤ
 or_zero None = pos 0
 or_zero (Some v) = v
@@ -110,20 +107,18 @@ abbrev pub or_empty : Option (List ℕ) → List ℕ
 or_empty None = []
 or_empty (Some v) = v
 
-abbrev pub value_in : Cell → Stored → Value
-value_in (Resident index) s = Number (or_zero (number_in (Resident index) s))
-value_in (Integer name) s = Number (or_zero (number_in (Integer name) s))
-value_in (String name) s = Text (or_empty (string_in (String name) s))
+abbrev pub value_in : Slot → Stored → Value
+value_in (OfNumber cell) s = Number (or_zero (number_in cell s))
+value_in (OfText name) s = Text (or_empty (string_in name s))
 
--- 0 or the empty string, by the kind of a cell
-abbrev pub blank : Cell → Value
-blank (Resident index) = Number (pos 0)
-blank (Integer name) = Number (pos 0)
-blank (String name) = Text []
+-- 0 or the empty string, by the kind of a variable
+abbrev pub blank : Slot → Value
+blank (OfNumber cell) = Number (pos 0)
+blank (OfText name) = Text []
 
--- a cell that was never made is made, with 0 or the empty string
-abbrev pub made : Cell → Stored → Stored
-made cell s = with_value cell (value_in cell s) s
+-- a variable that was never made is made, with 0 or the empty string
+abbrev pub made : Slot → Stored → Stored
+made slot s = with_value slot (value_in slot s) s
 
 -- whether n more values can be saved
 abbrev pub can_save : ℕ → Stored → Bool
@@ -133,13 +128,13 @@ can_save n s = nat_lt (length s.saved + n) (most_saved + 1)
 abbrev pub with_saved : ℕ → Kept → Stored → Stored
 with_saved depth kept s = record s { saved = record { call = depth; kept = kept } ∷ s.saved }
 
--- a call saves the value of a cell, which is made before
-abbrev pub cell_saved : ℕ → Cell → Stored → Stored
-cell_saved depth cell s = with_saved depth (Old cell (value_in cell s)) (made cell s)
+-- a call saves the value of a variable, which is made before
+abbrev pub slot_saved : ℕ → Slot → Stored → Stored
+slot_saved depth slot s = with_saved depth (Old slot (value_in slot s)) (made slot s)
 
--- a saved cell gets its value back
+-- a saved variable gets its value back
 abbrev pub put_back : Kept → Stored → Stored
-put_back (Old cell value) s = with_value cell value s
+put_back (Old slot value) s = with_value slot value s
 put_back (Handling handler) s = s
 
 -- what a call saved goes back, the latest first
@@ -175,7 +170,7 @@ call_dropped depth s =
 -- the earliest handler that a call still has saved
 abbrev pub or_later : Option (Option Handler) → Kept → Option (Option Handler)
 or_later (Some earliest) kept = Some earliest
-or_later None (Old cell value) = None
+or_later None (Old slot value) = None
 or_later None (Handling handler) = Some handler
 
 abbrev pub first_handler : ℕ → List Saved → Option (Option Handler)
