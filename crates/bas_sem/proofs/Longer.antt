@@ -93,20 +93,20 @@ pub then_pair : {A B : Type 0} (d f g : ℕ) (m m' : Action A) (n n' : Action B)
 then_pair d f g m m' n n' first second = bind_pair d f g m m' (λ _. n) (λ _. n') first (λ _. second)
 
 -- A piece that doesn't look at the steps left.
-abbrev shift : {A : Type 0} → ℕ → Course A → Course A
+abbrev pub shift : {A : Type 0} → ℕ → Course A → Course A
 shift d (Value v s) = Value v (more d s)
 shift d (Raised h s) = Raised h (more d s)
 shift d (Over p s) = Over p (more d s)
 shift d (Spent s) = Spent (more d s)
 
-steady_longer : {A : Type 0} (d : ℕ) (r r' : Course A) → r' ≡ shift d r → Longer d r r'
+pub steady_longer : {A : Type 0} (d : ℕ) (r r' : Course A) → r' ≡ shift d r → Longer d r r'
 steady_longer d (Value v s) r' is = is
 steady_longer d (Raised h s) r' is = is
 steady_longer d (Over p s) r' is = is
 steady_longer d (Spent s) r' is =
     (subst (λ q. IsPrefix s.output (state_in q).output) (sym is) (prefix_refl _), λ none. is ∙ ap Spent (ap (λ k. more k s) none ∙ more-zero s))
 
-steady_pair : {A : Type 0} (d f g : ℕ) (m : Action A) → Grows m → ((s : State) → m (more d s) ≡ shift d (m s)) → Pair d f g m m
+pub steady_pair : {A : Type 0} (d f g : ℕ) (m : Action A) → Grows m → ((s : State) → m (more d s) ≡ shift d (m s)) → Pair d f g m m
 steady_pair d f g m grows steady = record { grows = grows; grows' = grows; longer = λ s lf lg. steady_longer d (m s) (m (more d s)) (steady s) }
 
 pub stays : (s : State) → After s s

@@ -34,7 +34,7 @@ IsFalsehood true = ⊥
 IsFalsehood false = Unit {0}
 
 -- the least depth
-zero_least : (n : ℕ) → nat_le 0 n ≡ true
+pub zero_least : (n : ℕ) → nat_le 0 n ≡ true
 zero_least n = search rules
 
 module _ (prog : Prog) where
