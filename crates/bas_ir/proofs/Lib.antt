@@ -1,0 +1,3 @@
+pub mod EffectHeights
+pub mod StepPairs
+pub mod LongerRuns

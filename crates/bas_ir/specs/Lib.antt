@@ -1,0 +1,4 @@
+pub mod Places
+pub mod Effects
+pub mod Machine
+pub mod Heights

@@ -1,0 +1,9 @@
+//! The flat code of programs: operations in one list, which the interpreter executes and the compiler translates. What the
+//! operations do is defined in `specs/`.
+#![tactic(auto)]
+
+mod ir;
+mod op;
+
+pub use ir::{Height, Ir, LineStart, Routine};
+pub use op::{CallKind, Mark, Op, Piece};
