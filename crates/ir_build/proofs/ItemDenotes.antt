@@ -1,0 +1,238 @@
+-- The code of an expression pushes its value, and the code of an item does what the item does.
+use Rattle.std.proofs.Common.{◌≡◌, ℕ, ◌+◌, List, [], ◌∷◌, ◌++◌, Option, None, Some, refl, ap, ◌∙◌, append_assoc}
+use Rattle.std.specs.Prelude.{ℤ, pos, Bool, true, false, if◌then◌else◌}
+use Rattle.std.specs.Ordering.{int_eq}
+use Rattle.bas_ast.specs.declared.expressions.BinaryOp.{BinaryOp}
+use Rattle.bas_ast.specs.declared.expressions.BinaryOp.TheVariants as operators
+use Rattle.bas_ast.specs.declared.expressions.NumExpr.{NumExpr, more_of-NumExpr as held}
+use Rattle.bas_ast.specs.declared.expressions.NumExpr.TheVariants as num
+use Rattle.bas_ast.specs.declared.expressions.StrExpr.{StrExpr}
+use Rattle.bas_ast.specs.declared.expressions.StrExpr.TheVariants as str
+use Rattle.bas_ast.specs.declared.expressions.Variable.TheVariants as var
+use Rattle.bas_ast.specs.declared.lines.Item.{Item}
+use Rattle.bas_ast.specs.declared.lines.Item.TheVariants as item
+use Rattle.bas_ast.specs.declared.program.Prog.{Prog}
+use Rattle.bas_ast.specs.declared.statements.Assignment.{Assignment}
+use Rattle.bas_ast.specs.declared.statements.Assignment.TheVariants as assigns
+use Rattle.bas_ast.specs.declared.statements.Flow.{Flow}
+use Rattle.bas_ast.specs.declared.statements.Flow.TheVariants as flow
+use Rattle.bas_ast.specs.declared.statements.Output.{Output}
+use Rattle.bas_ast.specs.declared.statements.Output.TheVariants as writes
+use Rattle.bas_ast.specs.declared.statements.PrintPart.{PrintPart}
+use Rattle.bas_ast.specs.declared.statements.PrintPart.TheVariants as prints
+use Rattle.bas_ast.specs.declared.statements.Stmt.{Stmt}
+use Rattle.bas_ast.specs.declared.statements.Stmt.TheVariants as stmt
+use Rattle.bas_ast.specs.declared.statements.VduPart.{VduPart}
+use Rattle.bas_ast.specs.declared.statements.VduPart.TheVariants as sends
+use Rattle.bas_ast.specs.declared.targets.NumTarget.TheVariants as target
+use Rattle.bas_ir.specs.declared.op.Op.{Op}
+use Rattle.bas_ir.specs.declared.op.Op.TheVariants as o
+use Rattle.bas_ir.specs.declared.op.Piece.TheVariants as pieces
+use Rattle.bas_ir.specs.Effects.{Effect, falls, go_if}
+use Rattle.bas_ir.specs.Places.{Pending, nothing, pushed, text_pushed}
+use Rattle.bas_store.specs.Cells.{Cell, Resident, Integer, integer_cell}
+use Rattle.bas_store.specs.Stored.{Handler}
+use Rattle.bas_value.specs.Errors.{error_text, no_such_line, stopped}
+use Rattle.bas_value.specs.Output as out
+use Rattle.bv_num.specs.Operation as operations
+use Rattle.bv_num.specs.Operation.{Operation, operation}
+use Rattle.bas_sem.specs.State.{State}
+use Rattle.bas_sem.specs.Course.{Action, ◌>>=◌, ◌>>◌}
+use Rattle.bas_sem.specs.Actions.{read, assign, write, wrote, or_raise, raise, raised_to, taker}
+use Rattle.bas_sem.specs.Calls.{Level, Next, go_on}
+use Rattle.bas_sem.specs.Evaluate.{evaluate, evaluate_text}
+use Rattle.bas_sem.specs.Items.{assignment, go_to, goes, print, vdu, output, branch, statement, execute_item}
+use Rattle.bas_sem.specs.Operators.{of_one, of_two}
+use Rattle.bas_sem.specs.Places.{Row, else_place, line_place}
+use Rattle.ir_build.specs.Code.{read_op, store_op, expr_code, text_code, assignment_code, go_op, flow_op, print_code, vdu_code, output_code, statement_code, item_code, or_jump, row_code, flat_code}
+use Rattle.ir_build.proofs.Bind.{bind_assoc, bind_same, bind_then}
+use Rattle.ir_build.proofs.Denote.{calls_at, carry, den}
+
+module _ (prog : Prog) (level : Level) (next : ℕ) where
+  -- operations of the program's code, before the next item
+  abbrev does : List Op → Pending → Action Next
+  does ops p = den prog (flat_code prog) level next ops p
+
+  abbrev carries : (Pending → Action Next) → Effect → Action Next
+  carries then_do = carry prog (flat_code prog) level then_do
+
+  -- an action whose value is pushed
+  pushes : (m : Action ℤ) (ops : List Op) (p : Pending) (s : State) → ((m >>= (λ v. falls (pushed v p))) >>= carries (does ops)) s ≡ (m >>= (λ v. does ops (pushed v p))) s
+  pushes m ops p s = bind_assoc m (λ v. falls (pushed v p)) (carries (does ops)) s
+
+  read_den : (line : ℕ) (cell : Cell) (ops : List Op) (p : Pending) (s : State) → does (read_op line cell ∷ ops) p s ≡ (read line cell >>= (λ v. does ops (pushed v p))) s
+  read_den line (Resident index) ops p s = refl
+  read_den line (Integer name) ops p s = pushes (read line (Integer name)) ops p s
+
+  -- the value of an expression
+  abbrev value_of : ℕ → NumExpr → Action ℤ
+  value_of line x = evaluate prog (calls_at prog (flat_code prog) level) line x
+
+  pub expr_den : (line : ℕ) (x : NumExpr) (ops : List Op) (p : Pending) (s : State)
+      → does (expr_code prog line x ++ ops) p s ≡ (value_of line x >>= (λ v. does ops (pushed v p))) s
+  unfolding expr_code evaluate
+  expr_den line (num.Number value) ops p s = refl
+  expr_den line num.True ops p s = refl
+  expr_den line num.False ops p s = refl
+  expr_den line num.Count ops p s = refl
+  expr_den line (num.Variable (var.Simple name)) ops p s = read_den line (integer_cell prog.names name) ops p s
+  expr_den line (num.Bracket' _ (held x _)) ops p s = expr_den line x ops p s
+  expr_den line (num.Unary' op _ (held x _)) ops p s =
+      ap (λ c. does c p s) (append_assoc (expr_code prog line x) (o.Unary op line ∷ []) ops)
+      ∙ expr_den line x (o.Unary op line ∷ ops) p s
+      ∙ bind_then (value_of line x) (λ v. or_raise line (of_one op v)) (λ w. does ops (pushed w p)) (λ v. does (o.Unary op line ∷ ops) (pushed v p)) s
+      (λ v t. pushes (or_raise line (of_one op v)) ops p t)
+  expr_den line (num.Binary' op _ (held x _) _ (held y _)) ops p s =
+      ap (λ c. does c p s) (append_assoc (expr_code prog line x) (expr_code prog line y ++ o.Binary op line ∷ []) ops
+      ∙ ap (λ c. expr_code prog line x ++ c) (append_assoc (expr_code prog line y) (o.Binary op line ∷ []) ops))
+      ∙ expr_den line x (expr_code prog line y ++ o.Binary op line ∷ ops) p s
+      ∙ bind_then (value_of line x) (λ v. value_of line y >>= (λ w. or_raise line (of_two op v w))) (λ u. does ops (pushed u p))
+      (λ v. does (expr_code prog line y ++ o.Binary op line ∷ ops) (pushed v p)) s
+      (λ v t. expr_den line y (o.Binary op line ∷ ops) (pushed v p) t
+      ∙ bind_then (value_of line y) (λ w. or_raise line (of_two op v w)) (λ u. does ops (pushed u p)) (λ w. does (o.Binary op line ∷ ops) (pushed w (pushed v p))) t
+      (λ w u. pushes (or_raise line (of_two op v w)) ops p u))
+  expr_den line _ ops p s = refl
+
+  text_den : (line : ℕ) (x : StrExpr) (ops : List Op) (p : Pending) (s : State)
+      → does (text_code x ++ ops) p s ≡ (evaluate_text prog (calls_at prog (flat_code prog) level) line x >>= (λ v. does ops (text_pushed v p))) s
+  text_den line (str.Literal number) ops p s = refl
+  text_den line _ ops p s = refl
+
+  -- goes on with the next item
+  abbrev onwards : Unit {0} → Action Next
+  onwards _ = go_on next
+
+  -- an expression, and an operation that ends in what follows it
+  ends_den : (line : ℕ) (x : NumExpr) (ops : List Op) (f : ℤ → Action (Unit {0})) (s : State) → ((v : ℤ) (t : State) → does ops (pushed v nothing) t ≡ (f v >>= onwards) t)
+      → does (expr_code prog line x ++ ops) nothing s ≡ ((value_of line x >>= f) >>= onwards) s
+  ends_den line x ops f s same =
+      expr_den line x ops nothing s ∙ bind_then (value_of line x) f onwards (λ v. does ops (pushed v nothing)) s same
+
+  store_den : (cell : Cell) (v : ℤ) (t : State) → does (store_op cell ∷ []) (pushed v nothing) t ≡ (assign cell v >>= onwards) t
+  store_den (Resident index) v t = refl
+  store_den (Integer name) v t = refl
+
+  updated_den : (op : BinaryOp) (by : Operation) → ((x y : ℤ) → of_two op x y ≡ operation by x y) → (line : ℕ) (cell : Cell) (x : NumExpr) (s : State)
+      → does (read_op line cell ∷ (expr_code prog line x ++ o.Binary op line ∷ store_op cell ∷ [])) nothing s
+      ≡ ((read line cell >>= (λ old. value_of line x >>= (λ v. or_raise line (operation by old v) >>= assign cell))) >>= onwards) s
+  updated_den op by is line cell x s =
+      read_den line cell (expr_code prog line x ++ o.Binary op line ∷ store_op cell ∷ []) nothing s
+      ∙ bind_then (read line cell) (λ old. value_of line x >>= (λ v. or_raise line (operation by old v) >>= assign cell)) onwards
+      (λ old. does (expr_code prog line x ++ o.Binary op line ∷ store_op cell ∷ []) (pushed old nothing)) s
+      (λ old t. expr_den line x (o.Binary op line ∷ store_op cell ∷ []) (pushed old nothing) t
+      ∙ bind_then (value_of line x) (λ v. or_raise line (operation by old v) >>= assign cell) onwards
+      (λ v. does (o.Binary op line ∷ store_op cell ∷ []) (pushed v (pushed old nothing))) t
+      (λ v u. pushes (or_raise line (of_two op old v)) (store_op cell ∷ []) nothing u
+      ∙ ap (λ r. (or_raise line r >>= (λ w. does (store_op cell ∷ []) (pushed w nothing))) u) (is old v)
+      ∙ bind_then (or_raise line (operation by old v)) (assign cell) onwards (λ w. does (store_op cell ∷ []) (pushed w nothing)) u (store_den cell)))
+
+  assignment_den : (line : ℕ) (a : Assignment) (s : State)
+      → does (assignment_code prog line a) nothing s ≡ (assignment prog (calls_at prog (flat_code prog) level) line a >>= onwards) s
+  assignment_den line (assigns.Number (target.Variable (var.Simple name)) x) s =
+      ends_den line x (store_op (integer_cell prog.names name) ∷ []) (assign (integer_cell prog.names name)) s (store_den (integer_cell prog.names name))
+  assignment_den line (assigns.Add (target.Variable (var.Simple name)) x) s = updated_den operators.Add operations.Add (λ a b. refl) line (integer_cell prog.names name) x s
+  assignment_den line (assigns.Subtract (target.Variable (var.Simple name)) x) s =
+      updated_den operators.Subtract operations.Subtract (λ a b. refl) line (integer_cell prog.names name) x s
+  assignment_den line _ s = refl
+
+  -- a part is written, and others follow
+  written_den : (line : ℕ) (x : NumExpr) (op : Op) (part : ℤ → out.Part) (ops : List Op) (m : Action (Unit {0})) (s : State)
+      → ((v : ℤ) (t : State) → does (op ∷ ops) (pushed v nothing) t ≡ does ops nothing (wrote (part v) t)) → ((t : State) → does ops nothing t ≡ (m >>= onwards) t)
+      → does (expr_code prog line x ++ op ∷ ops) nothing s ≡ ((value_of line x >>= (λ v. write (part v) >> m)) >>= onwards) s
+  written_den line x op part ops m s writes_it others =
+      ends_den line x (op ∷ ops) (λ v. write (part v) >> m) s (λ v t. writes_it v t ∙ others (wrote (part v) t))
+
+  print_den : (line : ℕ) (padded new_line : Bool) (parts : List PrintPart) (s : State)
+      → does (print_code prog line padded new_line parts) nothing s ≡ (print prog (calls_at prog (flat_code prog) level) line padded new_line parts >>= onwards) s
+  unfolding print_code print
+  print_den line padded true [] s = refl
+  print_den line padded false [] s = refl
+  print_den line padded new_line (prints.Comma ∷ parts) s = print_den line true true parts (wrote out.Field s)
+  print_den line padded new_line (prints.Semicolon ∷ parts) s = print_den line false false parts s
+  print_den line padded new_line (prints.NewLine ∷ parts) s = print_den line padded true parts (wrote out.NewLine s)
+  print_den line padded new_line (prints.Number format x ∷ parts) s =
+      written_den line x (o.WriteNumber padded format) (out.Number padded format) _ (print prog (calls_at prog (flat_code prog) level) line padded true parts) s
+      (λ v t. refl) (print_den line padded true parts)
+  print_den line padded new_line (prints.Text x ∷ parts) s =
+      text_den line x (o.WriteText ∷ print_code prog line padded true parts) nothing s
+      ∙ bind_then (evaluate_text prog (calls_at prog (flat_code prog) level) line x)
+      (λ v. write (out.Text v) >> print prog (calls_at prog (flat_code prog) level) line padded true parts) onwards
+      (λ v. does (o.WriteText ∷ print_code prog line padded true parts) (text_pushed v nothing)) s
+      (λ v t. print_den line padded true parts (wrote (out.Text v) t))
+  print_den line padded new_line (prints.Spaces x ∷ parts) s =
+      written_den line x (o.Write pieces.Spaces) out.Spaces _ (print prog (calls_at prog (flat_code prog) level) line padded true parts) s
+      (λ v t. refl) (print_den line padded true parts)
+  print_den line padded new_line (prints.Tab x ∷ parts) s =
+      written_den line x (o.Write pieces.Tab) out.Tab _ (print prog (calls_at prog (flat_code prog) level) line padded true parts) s
+      (λ v t. refl) (print_den line padded true parts)
+
+  vdu_den : (line : ℕ) (parts : List VduPart) (s : State)
+      → does (vdu_code prog line parts) nothing s ≡ (vdu prog (calls_at prog (flat_code prog) level) line parts >>= onwards) s
+  unfolding vdu_code vdu
+  vdu_den line [] s = refl
+  vdu_den line (sends.Byte x ∷ parts) s =
+      written_den line x (o.Write pieces.Byte) out.Byte _ (vdu prog (calls_at prog (flat_code prog) level) line parts) s (λ v t. refl) (vdu_den line parts)
+  vdu_den line (sends.Word x ∷ parts) s =
+      written_den line x (o.Write pieces.Word) out.Word _ (vdu prog (calls_at prog (flat_code prog) level) line parts) s (λ v t. refl) (vdu_den line parts)
+
+  output_den : (line : ℕ) (w : Output) (s : State)
+      → does (output_code prog line w) nothing s ≡ (output prog (calls_at prog (flat_code prog) level) line w >>= onwards) s
+  output_den line (writes.Print parts) s = print_den line true true parts s
+  output_den line (writes.Vdu parts) s = vdu_den line parts s
+  output_den line (writes.Mode x) s = ends_den line x (o.Write pieces.Mode ∷ []) (λ v. write (out.Mode v)) s (λ v t. refl)
+  output_den line (writes.Colour x) s = ends_den line x (o.Write pieces.Colour ∷ []) (λ v. write (out.Colour v)) s (λ v t. refl)
+  output_den line writes.Cls s = refl
+
+  -- an error ends the item
+  raised_den : (h : Option Handler) (error : ℤ) (text : List ℕ) (line : ℕ) (then_do : Effect → Action Next) (s : State)
+      → (raised_to h error text line >>= then_do) s ≡ raised_to h error text line s
+  raised_den None error text line then_do s = refl
+  raised_den (Some h) error text line then_do s = refl
+
+  raise_den : (error line : ℕ) (ops : List Op) (s : State) → does (o.Raise error line ∷ ops) nothing s ≡ raise error line s
+  raise_den error line ops s = raised_den (taker (int_eq (pos error) (pos 0)) s.handler) (pos error) (error_text error) line (carries (does ops)) s
+
+  go_to_den : (to : Option ℕ) (line : ℕ) (s : State) → does (go_op to line ∷ []) nothing s ≡ go_to to line s
+  go_to_den None line s = raise_den no_such_line line [] s
+  go_to_den (Some place) line s = refl
+
+  flow_den : (line : ℕ) (w : Flow) (s : State) → does (flow_op prog line w ∷ []) nothing s ≡ goes prog line w s
+  flow_den line (flow.Goto number) s = go_to_den (line_place prog number) line s
+  flow_den line flow.Stop s = raise_den stopped line [] s
+  flow_den line flow.End s = refl
+  flow_den line flow.Quit s = refl
+  flow_den line _ s = refl
+
+  jump_den : (ops : List Op) (s : State) → does (or_jump next ops) nothing s ≡ does ops nothing s
+  jump_den [] s = refl
+  jump_den (op ∷ ops) s = refl
+
+module _ (prog : Prog) (level : Level) (place : ℕ) where
+  statement_den : (line : ℕ) (x : Stmt) (s : State)
+      → does prog level (place + 1) (statement_code prog line x) nothing s ≡ statement prog (calls_at prog (flat_code prog) level) place line x s
+  statement_den line (stmt.Assign a) s = assignment_den prog level (place + 1) line a s
+  statement_den line (stmt.Flow w) s = flow_den prog level (place + 1) line w s
+  statement_den line (stmt.Output w) s = output_den prog level (place + 1) line w s
+  statement_den line _ s = refl
+
+  -- IF: the jump is taken where the number is 0
+  branch_den : (zero : Bool) (item : ℕ) (s : State)
+      → carries prog level (place + 1) (does prog level (place + 1) []) (go_if zero item nothing) s ≡ go_on (if zero then item else place + 1) s
+  branch_den true item s = refl
+  branch_den false item s = refl
+
+  pub item_den : (line : ℕ) (i : Item) (s : State)
+      → does prog level (place + 1) (item_code prog place line i) nothing s ≡ execute_item prog (calls_at prog (flat_code prog) level) level place line i s
+  item_den line (item.Stmt x) s = statement_den line x s
+  item_den line (item.If x) s =
+      expr_den prog level (place + 1) line x (o.GoIfZero (else_place prog place) ∷ []) nothing s
+      ∙ bind_same (value_of prog level (place + 1) line x) (λ v. does prog level (place + 1) (o.GoIfZero (else_place prog place) ∷ []) (pushed v nothing))
+      (λ v. go_on (branch prog place v)) s (λ v t. branch_den (int_eq v (pos 0)) (else_place prog place) t)
+  item_den line item.Else s = refl
+  item_den line item.Remark s = refl
+  item_den line _ s = refl
+
+  -- the code of a row does what its item does
+  pub row_den : (row : Row) (s : State)
+      → does prog level (place + 1) (row_code prog place row) nothing s ≡ execute_item prog (calls_at prog (flat_code prog) level) level place row.line row.item s
+  row_den row s = jump_den prog level (place + 1) (item_code prog place row.line row.item) s ∙ item_den row.line row.item s

@@ -1,0 +1,10 @@
+mod Bind
+pub mod Denote
+pub mod ItemDenotes
+pub mod Joined
+pub mod Spots
+pub mod StepDenotes
+pub mod Feeding
+pub mod Bounds
+pub mod Equality
+pub mod Agreement

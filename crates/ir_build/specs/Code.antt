@@ -1,0 +1,199 @@
+-- The flat code of a program, item by item. This project's own.
+use Rattle.std.specs.Prelude.{ℕ, zero, suc, ◌+◌, pos, negsuc, Bool, true, false, List, [], ◌∷◌, ◌++◌, Option, None, Some, length, flat_map}
+use Rattle.bas_ast.specs.declared.expressions.NumExpr.{NumExpr, more_of-NumExpr as held}
+use Rattle.bas_ast.specs.declared.expressions.NumExpr.TheVariants as num
+use Rattle.bas_ast.specs.declared.expressions.StrExpr.{StrExpr}
+use Rattle.bas_ast.specs.declared.expressions.StrExpr.TheVariants as str
+use Rattle.bas_ast.specs.declared.expressions.BinaryOp.TheVariants as operators
+use Rattle.bas_ast.specs.declared.expressions.Variable.TheVariants as var
+use Rattle.bas_ast.specs.declared.lines.Item.{Item}
+use Rattle.bas_ast.specs.declared.lines.Item.TheVariants as item
+use Rattle.bas_ast.specs.declared.program.Prog.{Prog}
+use Rattle.bas_ast.specs.declared.program.ProgLine.{ProgLine}
+use Rattle.bas_ast.specs.declared.statements.Assignment.{Assignment}
+use Rattle.bas_ast.specs.declared.statements.Assignment.TheVariants as assigns
+use Rattle.bas_ast.specs.declared.statements.Flow.{Flow}
+use Rattle.bas_ast.specs.declared.statements.Flow.TheVariants as flow
+use Rattle.bas_ast.specs.declared.statements.Output.{Output}
+use Rattle.bas_ast.specs.declared.statements.Output.TheVariants as writes
+use Rattle.bas_ast.specs.declared.statements.PrintPart.{PrintPart}
+use Rattle.bas_ast.specs.declared.statements.PrintPart.TheVariants as prints
+use Rattle.bas_ast.specs.declared.statements.Stmt.{Stmt}
+use Rattle.bas_ast.specs.declared.statements.Stmt.TheVariants as stmt
+use Rattle.bas_ast.specs.declared.statements.VduPart.{VduPart}
+use Rattle.bas_ast.specs.declared.statements.VduPart.TheVariants as sends
+use Rattle.bas_ast.specs.declared.targets.NumTarget.TheVariants as target
+use Rattle.bas_ir.specs.declared.ir.Height.{Height}
+use Rattle.bas_ir.specs.declared.ir.Ir.{Ir}
+use Rattle.bas_ir.specs.declared.ir.LineStart.{LineStart}
+use Rattle.bas_ir.specs.declared.op.Mark.TheVariants as marks
+use Rattle.bas_ir.specs.declared.op.Op.{Op}
+use Rattle.bas_ir.specs.declared.op.Op.TheVariants as o
+use Rattle.bas_ir.specs.declared.op.Piece.TheVariants as pieces
+use Rattle.bas_ir.specs.Heights.{height_after, level_ground}
+use Rattle.bas_store.specs.Cells.{Cell, Resident, Integer, integer_cell}
+use Rattle.bas_value.specs.Errors.{no_such_line, stopped}
+use Rattle.bas_sem.specs.Places.{Row, rows, next_line, else_place, line_place}
+
+-- Reads and stores of an integer.
+abbrev pub read_op : ℕ → Cell → Op
+read_op line (Resident index) = o.PushResident index
+read_op line (Integer name) = o.PushInteger name line
+
+abbrev pub store_op : Cell → Op
+store_op (Resident index) = o.StoreResident index
+store_op (Integer name) = o.StoreInteger name
+
+-- An expression's code leaves one number more: its operands from left to right, each operator after its operands. A form that has
+-- no meaning yet ends the run.
+unfoldable pub expr_code : Prog → ℕ → NumExpr → List Op
+expr_code prog line (num.Number value) = o.Push value ∷ []
+expr_code prog line num.True = o.Push (negsuc 0) ∷ []
+expr_code prog line num.False = o.Push (pos 0) ∷ []
+expr_code prog line num.Count = o.PushColumn ∷ []
+expr_code prog line (num.Variable (var.Simple name)) = read_op line (integer_cell prog.names name) ∷ []
+expr_code prog line (num.Bracket' _ (held x _)) = expr_code prog line x
+expr_code prog line (num.Unary' op _ (held x _)) = expr_code prog line x ++ o.Unary op line ∷ []
+expr_code prog line (num.Binary' op _ (held x _) _ (held y _)) = expr_code prog line x ++ (expr_code prog line y ++ o.Binary op line ∷ [])
+expr_code prog line _ = o.End ∷ o.Push (pos 0) ∷ []
+
+-- and one string more
+abbrev pub text_code : StrExpr → List Op
+text_code (str.Literal number) = o.PushText number ∷ []
+text_code _ = o.End ∷ o.PushText 0 ∷ []
+
+-- LET, `+=` and `-=`
+abbrev pub assignment_code : Prog → ℕ → Assignment → List Op
+assignment_code prog line (assigns.Number (target.Variable (var.Simple name)) x) = expr_code prog line x ++ store_op (integer_cell prog.names name) ∷ []
+assignment_code prog line (assigns.Add (target.Variable (var.Simple name)) x) =
+    read_op line (integer_cell prog.names name) ∷ (expr_code prog line x ++ o.Binary operators.Add line ∷ store_op (integer_cell prog.names name) ∷ [])
+assignment_code prog line (assigns.Subtract (target.Variable (var.Simple name)) x) =
+    read_op line (integer_cell prog.names name) ∷ (expr_code prog line x ++ o.Binary operators.Subtract line ∷ store_op (integer_cell prog.names name) ∷ [])
+assignment_code prog line _ = o.End ∷ []
+
+-- GOTO
+abbrev pub go_op : Option ℕ → ℕ → Op
+go_op None line = o.Raise no_such_line line
+go_op (Some place) line = o.Go place
+
+abbrev pub flow_op : Prog → ℕ → Flow → Op
+flow_op prog line (flow.Goto number) = go_op (line_place prog number) line
+flow_op prog line flow.Stop = o.Raise stopped line
+flow_op prog line _ = o.End
+
+-- a new line where it is wanted
+abbrev pub finish_code : Bool → List Op
+finish_code true = o.WriteMark marks.NewLine ∷ []
+finish_code false = []
+
+-- PRINT
+unfoldable pub print_code : Prog → ℕ → (padded new_line : Bool) → List PrintPart → List Op
+print_code prog line padded new_line [] = finish_code new_line
+print_code prog line padded new_line (prints.Comma ∷ parts) = o.WriteMark marks.Field ∷ print_code prog line true true parts
+print_code prog line padded new_line (prints.Semicolon ∷ parts) = print_code prog line false false parts
+print_code prog line padded new_line (prints.NewLine ∷ parts) = o.WriteMark marks.NewLine ∷ print_code prog line padded true parts
+print_code prog line padded new_line (prints.Number format x ∷ parts) =
+    expr_code prog line x ++ o.WriteNumber padded format ∷ print_code prog line padded true parts
+print_code prog line padded new_line (prints.Text x ∷ parts) = text_code x ++ o.WriteText ∷ print_code prog line padded true parts
+print_code prog line padded new_line (prints.Spaces x ∷ parts) =
+    expr_code prog line x ++ o.Write pieces.Spaces ∷ print_code prog line padded true parts
+print_code prog line padded new_line (prints.Tab x ∷ parts) = expr_code prog line x ++ o.Write pieces.Tab ∷ print_code prog line padded true parts
+
+-- VDU
+unfoldable pub vdu_code : Prog → ℕ → List VduPart → List Op
+vdu_code prog line [] = []
+vdu_code prog line (sends.Byte x ∷ parts) = expr_code prog line x ++ o.Write pieces.Byte ∷ vdu_code prog line parts
+vdu_code prog line (sends.Word x ∷ parts) = expr_code prog line x ++ o.Write pieces.Word ∷ vdu_code prog line parts
+
+abbrev pub output_code : Prog → ℕ → Output → List Op
+output_code prog line (writes.Print parts) = print_code prog line true true parts
+output_code prog line (writes.Vdu parts) = vdu_code prog line parts
+output_code prog line (writes.Mode x) = expr_code prog line x ++ o.Write pieces.Mode ∷ []
+output_code prog line (writes.Colour x) = expr_code prog line x ++ o.Write pieces.Colour ∷ []
+output_code prog line writes.Cls = o.WriteMark marks.Clear ∷ []
+
+abbrev pub statement_code : Prog → ℕ → Stmt → List Op
+statement_code prog line (stmt.Assign a) = assignment_code prog line a
+statement_code prog line (stmt.Flow f) = flow_op prog line f ∷ []
+statement_code prog line (stmt.Output w) = output_code prog line w
+statement_code prog line _ = o.End ∷ []
+
+-- An item at a place. What goes on with the next item falls through to it.
+abbrev pub item_code : Prog → ℕ → ℕ → Item → List Op
+item_code prog place line (item.Stmt s) = statement_code prog line s
+item_code prog place line (item.If x) = expr_code prog line x ++ o.GoIfZero (else_place prog place) ∷ []
+item_code prog place line item.Else = o.Go (next_line prog place) ∷ []
+item_code prog place line item.Remark = []
+item_code prog place line _ = o.End ∷ []
+
+-- An item that does nothing is one jump to the next.
+abbrev pub or_jump : ℕ → List Op → List Op
+or_jump next [] = o.Go next ∷ []
+or_jump next (op ∷ ops) = op ∷ ops
+
+abbrev pub row_code : Prog → ℕ → Row → List Op
+row_code prog place row = or_jump (place + 1) (item_code prog place row.line row.item)
+
+-- the code of rows, of which the first is at a place
+abbrev pub codes_from : Prog → ℕ → List Row → List (List Op)
+codes_from prog place [] = []
+codes_from prog place (row ∷ rest) = row_code prog place row ∷ codes_from prog (place + 1) rest
+
+-- the code of each item
+unfoldable pub codes : Prog → List (List Op)
+codes prog = codes_from prog 0 (rows prog)
+
+-- the operations of all items in one list
+abbrev pub joined : List (List Op) → List Op
+joined [] = []
+joined (code ∷ rest) = code ++ joined rest
+
+-- the first operation of each is marked
+abbrev pub unmarked_all : List Op → List Bool
+unmarked_all [] = []
+unmarked_all (op ∷ ops) = false ∷ unmarked_all ops
+
+abbrev pub marks_of : List Op → List Bool
+marks_of [] = []
+marks_of (op ∷ ops) = true ∷ unmarked_all ops
+
+abbrev pub joined_marks : List (List Op) → List Bool
+joined_marks [] = []
+joined_marks (code ∷ rest) = marks_of code ++ joined_marks rest
+
+-- where each begins, after a number of others
+abbrev pub starts_from : ℕ → List (List Op) → List ℕ
+starts_from at [] = []
+starts_from at (code ∷ rest) = at ∷ starts_from (at + length code) rest
+
+abbrev pub start_at : List (List Op) → ℕ → ℕ
+start_at [] item = 0
+start_at (code ∷ rest) zero = 0
+start_at (code ∷ rest) (suc item) = length code + start_at rest item
+
+-- where each line begins: where its first item does, which has this place
+abbrev pub line_starts_from : List (List Op) → List ProgLine → ℕ → List LineStart
+line_starts_from codes [] place = []
+line_starts_from codes (line ∷ lines) place =
+    record { number = line.number; op = start_at codes place } ∷ line_starts_from codes lines (place + length line.items)
+
+-- what is pending before each operation of an item
+abbrev pub heights_of : Option Height → List Op → List Height
+heights_of h [] = []
+heights_of None (op ∷ ops) = level_ground ∷ heights_of None ops
+heights_of (Some h) (op ∷ ops) = h ∷ heights_of (height_after [] op h) ops
+
+-- The flat code of a program.
+abbrev pub flat_code : Prog → Ir
+flat_code prog = record {
+  ops = joined (codes prog);
+  marks = joined_marks (codes prog);
+  starts = starts_from 0 (codes prog);
+  heights = flat_map (heights_of (Some level_ground)) (codes prog);
+  routines = [];
+  texts = prog.texts;
+  names = prog.names;
+  data_items = prog.data_items;
+  line_starts = line_starts_from (codes prog) prog.lines 0;
+  size = prog.size;
+}

@@ -1,0 +1,18 @@
+//! The laws of a program's flat code.
+ghost use Rattle.std.specs.Prelude.{◌≡◌, ℕ, List};
+ghost use Rattle.bas_ir.specs.Machine.{flat_run, flat_run_within};
+ghost use Rattle.bas_sem.specs.Meaning.{source_run};
+ghost use Rattle.bv_run.specs.Outcome.{RunsAgree};
+ghost use Rattle.ir_build.specs.Code.{flat_code};
+
+use bas_ast::Prog;
+
+/// At each bound of steps the machine of the flat code shows what the program shows.
+pub fn steps_alike(prog: &Prog)
+    ensures { (input : List ℕ) (n : ℕ) → source_run prog.now input n ≡ flat_run_within (flat_code prog.now) input n }
+{}
+
+/// The program and its flat code, counted in operations, end alike or go on alike.
+pub fn flat_runs_agree(prog: &Prog)
+    ensures { (input : List ℕ) → RunsAgree (source_run prog.now input) (flat_run (flat_code prog.now) input) }
+{}
