@@ -7,6 +7,8 @@ use Rattle.bas_ast.specs.declared.expressions.NumExpr.{NumExpr, more_of-NumExpr 
 use Rattle.bas_ast.specs.declared.expressions.NumExpr.TheVariants as num
 use Rattle.bas_ast.specs.declared.expressions.StrExpr.{StrExpr}
 use Rattle.bas_ast.specs.declared.expressions.StrExpr.TheVariants as str
+use Rattle.bas_ast.specs.declared.expressions.UnaryOp.{UnaryOp}
+use Rattle.bas_ast.specs.declared.expressions.UnaryOp.TheVariants as unary
 use Rattle.bas_ast.specs.declared.expressions.Variable.TheVariants as var
 use Rattle.bas_ast.specs.declared.lines.Item.{Item}
 use Rattle.bas_ast.specs.declared.lines.Item.TheVariants as item
@@ -31,7 +33,7 @@ use Rattle.bas_ir.specs.declared.op.Piece.TheVariants as pieces
 use Rattle.bas_ir.specs.Heights.{IsFed, one_more, one_text_more, level_ground}
 use Rattle.bas_store.specs.Cells.{Cell, Resident, Integer, integer_cell}
 use Rattle.bas_sem.specs.Places.{Row, line_place, else_place}
-use Rattle.ir_build.specs.Code.{read_op, store_op, expr_code, text_code, assignment_code, go_op, flow_op, print_code, vdu_code, output_code, statement_code, item_code, or_jump, row_code}
+use Rattle.ir_build.specs.Code.{unary_code, read_op, store_op, expr_code, text_code, assignment_code, go_op, flow_op, print_code, vdu_code, output_code, statement_code, item_code, or_jump, row_code}
 
 -- the operations find what they take, after this height
 abbrev pub Fed : List Op → Height → Type 0
@@ -46,6 +48,14 @@ module _ (prog : Prog) (line : ℕ) where
   store_fed (Resident index) ops h fed = fed
   store_fed (Integer name) ops h fed = fed
 
+  unary_fed : (op : UnaryOp) (ops : List Op) (h : Height) → Fed ops (one_more h) → Fed (unary_code line op ++ ops) (one_more h)
+  unary_fed unary.Plus ops h fed = fed
+  unary_fed unary.Minus ops h fed = fed
+  unary_fed unary.Not ops h fed = fed
+  unary_fed unary.Abs ops h fed = fed
+  unary_fed unary.Sgn ops h fed = fed
+  unary_fed unary.Int ops h fed = fed
+
   expr_fed : (x : NumExpr) (ops : List Op) (h : Height) → Fed ops (one_more h) → Fed (expr_code prog line x ++ ops) h
   unfolding expr_code
   expr_fed (num.Number value) ops h fed = fed
@@ -55,7 +65,7 @@ module _ (prog : Prog) (line : ℕ) where
   expr_fed (num.Variable (var.Simple name)) ops h fed = read_fed (integer_cell prog.names name) ops h fed
   expr_fed (num.Bracket' _ (held x _)) ops h fed = expr_fed x ops h fed
   expr_fed (num.Unary' op _ (held x _)) ops h fed =
-      subst (λ l. Fed l h) (sym (append_assoc (expr_code prog line x) (o.Unary op line ∷ []) ops)) (expr_fed x (o.Unary op line ∷ ops) h fed)
+      subst (λ l. Fed l h) (sym (append_assoc (expr_code prog line x) (unary_code line op) ops)) (expr_fed x (unary_code line op ++ ops) h (unary_fed op ops h fed))
   expr_fed (num.Binary' op _ (held x _) _ (held y _)) ops h fed =
       subst (λ l. Fed l h)
       (sym (append_assoc (expr_code prog line x) (expr_code prog line y ++ o.Binary op line ∷ []) ops

@@ -8,6 +8,8 @@ use Rattle.bas_ast.specs.declared.expressions.NumExpr.{NumExpr, more_of-NumExpr 
 use Rattle.bas_ast.specs.declared.expressions.NumExpr.TheVariants as num
 use Rattle.bas_ast.specs.declared.expressions.StrExpr.{StrExpr}
 use Rattle.bas_ast.specs.declared.expressions.StrExpr.TheVariants as str
+use Rattle.bas_ast.specs.declared.expressions.UnaryOp.{UnaryOp}
+use Rattle.bas_ast.specs.declared.expressions.UnaryOp.TheVariants as unary
 use Rattle.bas_ast.specs.declared.expressions.Variable.TheVariants as var
 use Rattle.bas_ast.specs.declared.lines.Item.{Item}
 use Rattle.bas_ast.specs.declared.lines.Item.TheVariants as item
@@ -44,7 +46,7 @@ use Rattle.bas_sem.specs.Evaluate.{evaluate, evaluate_text}
 use Rattle.bas_sem.specs.Items.{assignment, go_to, goes, print, vdu, output, branch, statement, execute_item}
 use Rattle.bas_sem.specs.Operators.{of_one, of_two}
 use Rattle.bas_sem.specs.Places.{Row, else_place, line_place}
-use Rattle.ir_build.specs.Code.{read_op, store_op, expr_code, text_code, assignment_code, go_op, flow_op, print_code, vdu_code, output_code, statement_code, item_code, or_jump, row_code, flat_code}
+use Rattle.ir_build.specs.Code.{unary_code, read_op, store_op, expr_code, text_code, assignment_code, go_op, flow_op, print_code, vdu_code, output_code, statement_code, item_code, or_jump, row_code, flat_code}
 use Rattle.ir_build.proofs.Bind.{bind_assoc, bind_same, bind_then}
 use Rattle.ir_build.proofs.Denote.{calls_at, carry, den}
 
@@ -68,6 +70,15 @@ module _ (prog : Prog) (level : Level) (next : ℕ) where
   abbrev value_of : ℕ → NumExpr → Action ℤ
   value_of line x = evaluate prog (calls_at prog (flat_code prog) level) line x
 
+  unary_den : (line : ℕ) (op : UnaryOp) (ops : List Op) (p : Pending) (v : ℤ) (t : State)
+      → does (unary_code line op ++ ops) (pushed v p) t ≡ (or_raise line (of_one op v) >>= (λ w. does ops (pushed w p))) t
+  unary_den line unary.Plus ops p v t = refl
+  unary_den line unary.Minus ops p v t = pushes (or_raise line (of_one unary.Minus v)) ops p t
+  unary_den line unary.Not ops p v t = pushes (or_raise line (of_one unary.Not v)) ops p t
+  unary_den line unary.Abs ops p v t = pushes (or_raise line (of_one unary.Abs v)) ops p t
+  unary_den line unary.Sgn ops p v t = pushes (or_raise line (of_one unary.Sgn v)) ops p t
+  unary_den line unary.Int ops p v t = refl
+
   pub expr_den : (line : ℕ) (x : NumExpr) (ops : List Op) (p : Pending) (s : State)
       → does (expr_code prog line x ++ ops) p s ≡ (value_of line x >>= (λ v. does ops (pushed v p))) s
   unfolding expr_code evaluate
@@ -78,10 +89,10 @@ module _ (prog : Prog) (level : Level) (next : ℕ) where
   expr_den line (num.Variable (var.Simple name)) ops p s = read_den line (integer_cell prog.names name) ops p s
   expr_den line (num.Bracket' _ (held x _)) ops p s = expr_den line x ops p s
   expr_den line (num.Unary' op _ (held x _)) ops p s =
-      ap (λ c. does c p s) (append_assoc (expr_code prog line x) (o.Unary op line ∷ []) ops)
-      ∙ expr_den line x (o.Unary op line ∷ ops) p s
-      ∙ bind_then (value_of line x) (λ v. or_raise line (of_one op v)) (λ w. does ops (pushed w p)) (λ v. does (o.Unary op line ∷ ops) (pushed v p)) s
-      (λ v t. pushes (or_raise line (of_one op v)) ops p t)
+      ap (λ c. does c p s) (append_assoc (expr_code prog line x) (unary_code line op) ops)
+      ∙ expr_den line x (unary_code line op ++ ops) p s
+      ∙ bind_then (value_of line x) (λ v. or_raise line (of_one op v)) (λ w. does ops (pushed w p)) (λ v. does (unary_code line op ++ ops) (pushed v p)) s
+      (λ v t. unary_den line op ops p v t)
   expr_den line (num.Binary' op _ (held x _) _ (held y _)) ops p s =
       ap (λ c. does c p s) (append_assoc (expr_code prog line x) (expr_code prog line y ++ o.Binary op line ∷ []) ops
       ∙ ap (λ c. expr_code prog line x ++ c) (append_assoc (expr_code prog line y) (o.Binary op line ∷ []) ops))

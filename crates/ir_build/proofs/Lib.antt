@@ -8,3 +8,4 @@ pub mod Feeding
 pub mod Bounds
 pub mod Equality
 pub mod Agreement
+pub mod Weights

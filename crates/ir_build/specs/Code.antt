@@ -5,6 +5,8 @@ use Rattle.bas_ast.specs.declared.expressions.NumExpr.TheVariants as num
 use Rattle.bas_ast.specs.declared.expressions.StrExpr.{StrExpr}
 use Rattle.bas_ast.specs.declared.expressions.StrExpr.TheVariants as str
 use Rattle.bas_ast.specs.declared.expressions.BinaryOp.TheVariants as operators
+use Rattle.bas_ast.specs.declared.expressions.UnaryOp.{UnaryOp}
+use Rattle.bas_ast.specs.declared.expressions.UnaryOp.TheVariants as unary
 use Rattle.bas_ast.specs.declared.expressions.Variable.TheVariants as var
 use Rattle.bas_ast.specs.declared.lines.Item.{Item}
 use Rattle.bas_ast.specs.declared.lines.Item.TheVariants as item
@@ -44,6 +46,15 @@ abbrev pub store_op : Cell → Op
 store_op (Resident index) = o.StoreResident index
 store_op (Integer name) = o.StoreInteger name
 
+-- A word or sign before a number. Unary plus and INT change nothing.
+abbrev pub unary_code : ℕ → UnaryOp → List Op
+unary_code line unary.Plus = []
+unary_code line unary.Minus = o.Unary unary.Minus line ∷ []
+unary_code line unary.Not = o.Unary unary.Not line ∷ []
+unary_code line unary.Abs = o.Unary unary.Abs line ∷ []
+unary_code line unary.Sgn = o.Unary unary.Sgn line ∷ []
+unary_code line unary.Int = []
+
 -- An expression's code leaves one number more: its operands from left to right, each operator after its operands. A form that has
 -- no meaning yet ends the run.
 unfoldable pub expr_code : Prog → ℕ → NumExpr → List Op
@@ -53,7 +64,7 @@ expr_code prog line num.False = o.Push (pos 0) ∷ []
 expr_code prog line num.Count = o.PushColumn ∷ []
 expr_code prog line (num.Variable (var.Simple name)) = read_op line (integer_cell prog.names name) ∷ []
 expr_code prog line (num.Bracket' _ (held x _)) = expr_code prog line x
-expr_code prog line (num.Unary' op _ (held x _)) = expr_code prog line x ++ o.Unary op line ∷ []
+expr_code prog line (num.Unary' op _ (held x _)) = expr_code prog line x ++ unary_code line op
 expr_code prog line (num.Binary' op _ (held x _) _ (held y _)) = expr_code prog line x ++ (expr_code prog line y ++ o.Binary op line ∷ [])
 expr_code prog line _ = o.End ∷ o.Push (pos 0) ∷ []
 

@@ -4,6 +4,7 @@ ghost use Rattle.bas_ir.specs.Machine.{flat_run, flat_run_within};
 ghost use Rattle.bas_sem.specs.Meaning.{source_run};
 ghost use Rattle.bv_run.specs.Outcome.{RunsAgree};
 ghost use Rattle.ir_build.specs.Code.{flat_code};
+ghost use Rattle.ir_build.specs.Weight.{SimpleItemsLight};
 
 use bas_ast::Prog;
 
@@ -15,4 +16,9 @@ pub fn steps_alike(prog: &Prog)
 /// The program and its flat code, counted in operations, end alike or go on alike.
 pub fn flat_runs_agree(prog: &Prog)
     ensures { (input : List ℕ) → RunsAgree (source_run prog.now input) (flat_run (flat_code prog.now) input) }
+{}
+
+/// The code of a simple item has at most one operation more than the item weighs, and all of them are plain.
+pub fn simple_items_light(prog: &Prog)
+    ensures { SimpleItemsLight prog.now }
 {}
