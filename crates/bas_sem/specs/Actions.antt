@@ -18,6 +18,7 @@ outside = over Done
 abbrev pub wrote : Part → State → State
 wrote part s = record s { output = s.output ++ part_bytes part s.column; column = column_after part s.column }
 
+-- a part of the output is written at the column
 abbrev pub write : Part → Action (Unit {0})
 write part = λ s. Value tt (wrote part s)
 
@@ -78,6 +79,7 @@ abbrev pub spend : Option ℕ → ℕ → Action (Unit {0})
 spend place zero = λ s. Spent s
 spend place (suc n) = λ s. Value tt (record s { left = n; latest = place })
 
+-- one step is taken, where one is left
 abbrev pub take_step : Option ℕ → Action (Unit {0})
 take_step place = λ s. spend place s.left s
 
@@ -85,6 +87,7 @@ take_step place = λ s. spend place s.left s
 abbrev pub handler_now : Action (Option Handler)
 handler_now = λ s. Value s.handler s
 
+-- who takes errors from now on
 abbrev pub set_handler : Option Handler → Action (Unit {0})
 set_handler handler = λ s. Value tt (record s { handler = handler })
 
@@ -93,6 +96,7 @@ abbrev pub save_if : Bool → ℕ → Slot → ℕ → Action (Unit {0})
 save_if false depth slot line = raise no_room line
 save_if true depth slot line = change (store.slot_saved depth slot)
 
+-- a variable is made, and then saved for the call at a depth, or there is no room: error 37 at a line
 abbrev pub save : ℕ → Slot → ℕ → Action (Unit {0})
 save depth slot line = change (store.made slot) >> (look (store.can_save 1) >>= (λ fits. save_if fits depth slot line))
 
@@ -102,11 +106,13 @@ abbrev pub or_set : Option (Option Handler) → Option Handler → Option Handle
 or_set None set = set
 or_set (Some saved) set = saved
 
+-- in place of a local handler of the call at a depth, the one at its entry
 abbrev pub unless_own : ℕ → Option Handler → Option Handler → Option Handler
 unless_own depth entry None = None
 unless_own depth entry (Some (ForAll at)) = Some (ForAll at)
 unless_own depth entry (Some (ForCall call opened at)) = if call == depth then entry else Some (ForCall call opened at)
 
+-- the handler after the call at a depth
 abbrev pub handler_after : ℕ → Option Handler → List Saved → Option Handler → Option Handler
 handler_after depth entry saved set = unless_own depth entry (or_set (store.first_handler depth saved) set)
 

@@ -34,6 +34,7 @@ pub data Next : Type 0 where
   GoOn : (place : ℕ) → Next
   Leave : (value : Option Content) → Next
 
+-- goes on at a place
 abbrev pub go_on : ℕ → Action Next
 go_on place = give (GoOn place)
 
@@ -47,12 +48,14 @@ abbrev pub taken_here : Bool → Handler → Action Next
 taken_here true handler = λ s. Value (GoOn (place_of handler)) (record s { stored = taken handler s.stored })
 taken_here false handler = λ s. Raised handler s
 
+-- what an item came to, where errors for the call that runs are taken
 abbrev pub handled : Level → Course Next → Course Next
 handled level (Value next s) = Value next s
 handled level (Raised handler s) = taken_here (nat_le level.depth (owner_of handler)) handler s
 handled level (Over report s) = Over report s
 handled level (Spent s) = Spent s
 
+-- an item, where errors for the call that runs are taken
 abbrev pub handling : Level → Action Next → Action Next
 handling level m = λ s. handled level (m s)
 
@@ -64,6 +67,7 @@ call_ended depth entry (Raised handler s) = Raised handler (record s { stored = 
 call_ended depth entry (Over report s) = Over report s
 call_ended depth entry (Spent s) = Spent s
 
+-- a body, and the end of its call
 abbrev pub ended : ℕ → Option Handler → Action (Option Content) → Action (Option Content)
 ended depth entry m = λ s. call_ended depth entry (m s)
 
@@ -91,6 +95,7 @@ enter true execute level line kind body values = do
   entry ← handler_now
   ended (suc level.depth) entry (take_step None >> execute (record { kind = kind; depth = suc level.depth }) body.at)
 
+-- a call, where there is room for it, and else the error 37
 abbrev pub call : (Level → ℕ → Action (Option Content)) → Level → Calls
 call execute level line kind body values =
     look (has_room level.depth (length body.formals)) >>= (λ fits. enter fits execute level line kind body values)

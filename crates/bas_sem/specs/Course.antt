@@ -22,13 +22,13 @@ on_value (Raised h s) next = Raised h s
 on_value (Over r s) next = Over r s
 on_value (Spent s) next = Spent s
 
--- a piece, and then one that has its value
 infixl 20 ◌>>=◌
+-- a piece, and then one that has its value
 abbrev pub ◌>>=◌ : {A B : Type 0} → Action A → (A → Action B) → Action B
 ◌>>=◌ m next = λ s. on_value (m s) next
 
--- a piece, and then another
 infixl 20 ◌>>◌
+-- a piece, and then another
 abbrev pub ◌>>◌ : {A B : Type 0} → Action A → Action B → Action B
 ◌>>◌ m next = λ s. on_value (m s) (λ _. next)
 

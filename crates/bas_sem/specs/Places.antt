@@ -23,6 +23,7 @@ abbrev pub rest_among : List ProgLine → ℕ → List Item
 rest_among [] place = []
 rest_among (line ∷ lines) place = if nat_lt place (length line.items) then drop (place + 1) line.items else rest_among lines (place - length line.items)
 
+-- the items of its line after a place
 abbrev pub rest_of_line : Prog → ℕ → List Item
 rest_of_line prog place = rest_among prog.lines place
 
@@ -45,5 +46,6 @@ abbrev pub line_among : List ProgLine → ℕ → ℕ → Option ℕ
 line_among [] number place = None
 line_among (line ∷ lines) number place = if line.number == number then Some place else line_among lines number (place + length line.items)
 
+-- the place of the first line of a number, if the program has one
 abbrev pub line_place : Prog → ℕ → Option ℕ
 line_place prog number = line_among prog.lines number 0

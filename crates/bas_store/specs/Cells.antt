@@ -40,10 +40,12 @@ abbrev pub cell_by : Option ℕ → ℕ → Cell
 cell_by None name = Integer name
 cell_by (Some index) name = Resident index
 
+-- the bytes of a name that may be there
 abbrev pub text_of_name : Option Name → List ℕ
 text_of_name None = []
 text_of_name (Some name) = name.text
 
+-- the cell of the integer with the name at a place
 abbrev pub integer_cell : List Name → ℕ → Cell
 integer_cell names name = cell_by (resident_of (text_of_name (slice_get names name))) name
 

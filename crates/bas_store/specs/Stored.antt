@@ -63,13 +63,15 @@ nothing_stored names = record {
   opened = [];
 }
 
--- the greatest numbers of open calls, of saved values, and of open entries
+-- the greatest number of open calls
 abbrev pub most_calls : ℕ
 most_calls = 512
 
+-- the greatest number of saved values
 abbrev pub most_saved : ℕ
 most_saved = 8192
 
+-- the greatest number of open entries
 abbrev pub most_opened : ℕ
 most_opened = 4096
 
@@ -103,10 +105,12 @@ abbrev pub or_zero : Option ℤ → ℤ
 or_zero None = pos 0
 or_zero (Some v) = v
 
+-- the string that may be there, or else the empty one
 abbrev pub or_empty : Option (List ℕ) → List ℕ
 or_empty None = []
 or_empty (Some v) = v
 
+-- the value of a variable, 0 or the empty string where it was never made
 abbrev pub value_in : Slot → Stored → Value
 value_in (OfNumber cell) s = Number (or_zero (number_in cell s))
 value_in (OfText name) s = Text (or_empty (string_in name s))
@@ -173,6 +177,7 @@ or_later (Some earliest) kept = Some earliest
 or_later None (Old slot value) = None
 or_later None (Handling handler) = Some handler
 
+-- the earliest handler that a call still has saved, if it has one
 abbrev pub first_handler : ℕ → List Saved → Option (Option Handler)
 first_handler depth [] = None
 first_handler depth (x ∷ xs) = if x.call == depth then or_later (first_handler depth xs) x.kept else None

@@ -34,6 +34,7 @@ pub data Part : Type 0 where
 abbrev pub low_byte : ℤ → ℕ
 low_byte z = pattern z % 256
 
+-- the byte above the low one
 abbrev pub second_byte : ℤ → ℕ
 second_byte z = pattern z / 256 % 256
 

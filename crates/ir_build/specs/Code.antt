@@ -42,6 +42,7 @@ abbrev pub read_op : ℕ → Cell → Op
 read_op line (Resident index) = o.PushResident index
 read_op line (Integer name) = o.PushInteger name line
 
+-- the store of an integer
 abbrev pub store_op : Cell → Op
 store_op (Resident index) = o.StoreResident index
 store_op (Integer name) = o.StoreInteger name
@@ -87,6 +88,7 @@ abbrev pub go_op : Option ℕ → ℕ → Op
 go_op None line = o.Raise no_such_line line
 go_op (Some place) line = o.Go place
 
+-- GOTO, STOP, END and QUIT
 abbrev pub flow_op : Prog → ℕ → Flow → Op
 flow_op prog line (flow.Goto number) = go_op (line_place prog number) line
 flow_op prog line flow.Stop = o.Raise stopped line
@@ -116,6 +118,7 @@ vdu_code prog line [] = []
 vdu_code prog line (sends.Byte x ∷ parts) = expr_code prog line x ++ o.Write pieces.Byte ∷ vdu_code prog line parts
 vdu_code prog line (sends.Word x ∷ parts) = expr_code prog line x ++ o.Write pieces.Word ∷ vdu_code prog line parts
 
+-- PRINT, VDU, MODE, COLOUR and CLS
 abbrev pub output_code : Prog → ℕ → Output → List Op
 output_code prog line (writes.Print parts) = print_code prog line true true parts
 output_code prog line (writes.Vdu parts) = vdu_code prog line parts
@@ -123,6 +126,7 @@ output_code prog line (writes.Mode x) = expr_code prog line x ++ o.Write pieces.
 output_code prog line (writes.Colour x) = expr_code prog line x ++ o.Write pieces.Colour ∷ []
 output_code prog line writes.Cls = o.WriteMark marks.Clear ∷ []
 
+-- a plain statement
 abbrev pub statement_code : Prog → ℕ → Stmt → List Op
 statement_code prog line (stmt.Assign a) = assignment_code prog line a
 statement_code prog line (stmt.Flow f) = flow_op prog line f ∷ []
@@ -142,6 +146,7 @@ abbrev pub or_jump : ℕ → List Op → List Op
 or_jump next [] = o.Go next ∷ []
 or_jump next (op ∷ ops) = op ∷ ops
 
+-- the code of an item at a place, which has at least one operation
 abbrev pub row_code : Prog → ℕ → Row → List Op
 row_code prog place row = or_jump (place + 1) (item_code prog place row.line row.item)
 
@@ -164,10 +169,12 @@ abbrev pub unmarked_all : List Op → List Bool
 unmarked_all [] = []
 unmarked_all (op ∷ ops) = false ∷ unmarked_all ops
 
+-- the marks of the operations of one item
 abbrev pub marks_of : List Op → List Bool
 marks_of [] = []
 marks_of (op ∷ ops) = true ∷ unmarked_all ops
 
+-- the marks of all items in one list
 abbrev pub joined_marks : List (List Op) → List Bool
 joined_marks [] = []
 joined_marks (code ∷ rest) = marks_of code ++ joined_marks rest
@@ -177,6 +184,7 @@ abbrev pub starts_from : ℕ → List (List Op) → List ℕ
 starts_from at [] = []
 starts_from at (code ∷ rest) = at ∷ starts_from (at + length code) rest
 
+-- where the code of an item begins in the whole list
 abbrev pub start_at : List (List Op) → ℕ → ℕ
 start_at [] item = 0
 start_at (code ∷ rest) zero = 0

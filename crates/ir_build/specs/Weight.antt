@@ -51,6 +51,7 @@ abbrev pub and_one : Option ℕ → Option ℕ
 and_one None = None
 and_one (Some n) = Some (n + 1)
 
+-- one more than two weights together
 abbrev pub and_both : Option ℕ → Option ℕ → Option ℕ
 and_both None w = None
 and_both (Some m) None = None
@@ -72,6 +73,7 @@ abbrev pub goto_weight : Option ℕ → Option ℕ
 goto_weight None = None
 goto_weight (Some place) = Some 0
 
+-- the weight of a simple statement
 abbrev pub statement_weight : Prog → Stmt → Option ℕ
 statement_weight prog (stmt.Assign (assigns.Number (target.Variable (var.Simple name)) x)) = and_one (plain_weight x)
 statement_weight prog (stmt.Flow (flow.Goto number)) = goto_weight (line_place prog number)
