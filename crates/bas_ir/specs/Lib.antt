@@ -2,3 +2,4 @@ pub mod Places
 pub mod Effects
 pub mod Machine
 pub mod Heights
+pub mod WellFormed
