@@ -49,7 +49,7 @@ spot_in [] [] zero full = Past refl refl refl
 spot_in [] [] (suc k) full = Past refl refl refl
 
 -- a code has as many marks' places as operations, and one mark
-length_marks : (c : List Op) → length (marks_of c) ≡ length c
+pub length_marks : (c : List Op) → length (marks_of c) ≡ length c
 length_marks [] = refl
 length_marks (op ∷ ops) = ap suc (all_marks ops)
   where

@@ -9,3 +9,5 @@ pub mod Bounds
 pub mod Equality
 pub mod Agreement
 pub mod Weights
+mod Reaching
+mod LaidOut

@@ -33,7 +33,7 @@ codes_from-full : (prog : Prog) (rs : List Row) (base : ℕ) → AreFull (codes_
 codes_from-full prog [] base = tt
 codes_from-full prog (r ∷ rs) base = jump_full (base + 1) (item_code prog base r.line r.item) _ (codes_from-full prog rs (base + 1))
 
-codes_full : (prog : Prog) → AreFull (codes prog)
+pub codes_full : (prog : Prog) → AreFull (codes prog)
 unfolding codes
 codes_full prog = codes_from-full prog (rows prog) 0
 
@@ -70,7 +70,7 @@ module _ (prog : Prog) where
   pub spot : (pc : ℕ) → Spot pc
   spot pc = spot_of pc (spot_in [] (codes prog) pc (codes_full prog))
 
-  start_of-is : (item : ℕ) → start_of (flat_code prog) item ≡ start_at (codes prog) item
+  pub start_of-is : (item : ℕ) → start_of (flat_code prog) item ≡ start_at (codes prog) item
   unfolding start_of
   start_of-is item =
       ap (slice_index_or (starts_from 0 (codes prog)) item) (sym (zero-add (length (joined (codes prog)))))

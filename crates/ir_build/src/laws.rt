@@ -1,6 +1,7 @@
 //! The laws of a program's flat code.
 ghost use Rattle.std.specs.Prelude.{◌≡◌, ℕ, List};
 ghost use Rattle.bas_ir.specs.Machine.{flat_run, flat_run_within};
+ghost use Rattle.bas_ir.specs.WellFormed.{IsLaidOut};
 ghost use Rattle.bas_sem.specs.Meaning.{source_run};
 ghost use Rattle.bv_run.specs.Outcome.{RunsAgree};
 ghost use Rattle.ir_build.specs.Code.{flat_code};
@@ -21,4 +22,9 @@ pub fn flat_runs_agree(prog: &Prog)
 /// The code of a simple item has at most one operation more than the item weighs, and all of them are plain.
 pub fn simple_items_light(prog: &Prog)
     ensures { SimpleItemsLight prog.now }
+{}
+
+/// The tables of a program's flat code fit its operations: marks, starts, what is pending, and where each leads.
+pub fn code_laid_out(prog: &Prog)
+    ensures { IsLaidOut (flat_code prog.now) }
 {}

@@ -4,4 +4,4 @@
 
 mod laws;
 
-pub use laws::{flat_runs_agree, simple_items_light, steps_alike};
+pub use laws::{code_laid_out, flat_runs_agree, simple_items_light, steps_alike};

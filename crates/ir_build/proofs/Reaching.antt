@@ -1,0 +1,228 @@
+-- Where the operations of a program's code lead is an item, or the end.
+use Rattle.std.proofs.Common.{◌≡◌, ℕ, zero, suc, ◌+◌, ◌-◌, ◌<◌, ◌≤◌, List, [], ◌∷◌, ◌++◌, Option, None, Some, refl, ap, subst, ◌∙◌, length, drop, map, arith, length-append, length-drop, zero-add}
+use Rattle.std.specs.Prelude.{Bool, true, false, flat_map, nat_lt, slice_get, ◌==◌, if◌then◌else◌}
+use Rattle.std.proofs.lemmas.Bool.{ltb-true, ltb-false}
+use Rattle.std.proofs.Math.ListN.{length-map}
+use Rattle.bas_ast.specs.declared.expressions.NumExpr.{NumExpr, more_of-NumExpr as held}
+use Rattle.bas_ast.specs.declared.expressions.NumExpr.TheVariants as num
+use Rattle.bas_ast.specs.declared.expressions.StrExpr.{StrExpr}
+use Rattle.bas_ast.specs.declared.expressions.StrExpr.TheVariants as str
+use Rattle.bas_ast.specs.declared.expressions.UnaryOp.{UnaryOp}
+use Rattle.bas_ast.specs.declared.expressions.UnaryOp.TheVariants as unary
+use Rattle.bas_ast.specs.declared.expressions.Variable.TheVariants as var
+use Rattle.bas_ast.specs.declared.lines.Item.{Item}
+use Rattle.bas_ast.specs.declared.lines.Item.TheVariants as item
+use Rattle.bas_ast.specs.declared.program.Prog.{Prog}
+use Rattle.bas_ast.specs.declared.program.ProgLine.{ProgLine}
+use Rattle.bas_ast.specs.declared.statements.Assignment.{Assignment}
+use Rattle.bas_ast.specs.declared.statements.Assignment.TheVariants as assigns
+use Rattle.bas_ast.specs.declared.statements.Flow.{Flow}
+use Rattle.bas_ast.specs.declared.statements.Flow.TheVariants as flow
+use Rattle.bas_ast.specs.declared.statements.Output.{Output}
+use Rattle.bas_ast.specs.declared.statements.Output.TheVariants as writes
+use Rattle.bas_ast.specs.declared.statements.PrintPart.{PrintPart}
+use Rattle.bas_ast.specs.declared.statements.PrintPart.TheVariants as prints
+use Rattle.bas_ast.specs.declared.statements.Stmt.{Stmt}
+use Rattle.bas_ast.specs.declared.statements.Stmt.TheVariants as stmt
+use Rattle.bas_ast.specs.declared.statements.VduPart.{VduPart}
+use Rattle.bas_ast.specs.declared.statements.VduPart.TheVariants as sends
+use Rattle.bas_ast.specs.declared.targets.NumTarget.TheVariants as target
+use Rattle.bas_ir.specs.declared.op.Op.{Op}
+use Rattle.bas_ir.specs.declared.op.Op.TheVariants as o
+use Rattle.bas_ir.specs.declared.op.Piece.TheVariants as pieces
+use Rattle.bas_store.specs.Cells.{Cell, Resident, Integer, integer_cell}
+use Rattle.bas_sem.specs.Places.{Row, rows, rest_among, rest_of_line, after_else, else_place, line_among, line_place}
+use Rattle.ir_build.specs.Code.{unary_code, read_op, store_op, expr_code, text_code, assignment_code, go_op, flow_op, print_code, vdu_code, output_code, statement_code, item_code, or_jump, row_code, codes_from, codes, joined}
+
+abbrev IsNot : {A : Type 0} → Option A → Type 0
+IsNot None = Unit {0}
+IsNot (Some x) = ⊥
+
+-- the rows of lines
+abbrev rows_of : List ProgLine → List Row
+rows_of lines = flat_map (λ line. map (λ i. record { line = line.number; item = i }) line.items) lines
+
+rows_more : (line : ProgLine) (lines : List ProgLine) → length (rows_of (line ∷ lines)) ≡ length line.items + length (rows_of lines)
+rows_more line lines =
+    length-append (map (λ i. record { line = line.number; item = i }) line.items) (rows_of lines)
+    ∙ ap (λ n. n + length (rows_of lines)) (length-map line.items (λ i. record { line = line.number; item = i }))
+
+-- a place that may be there is not past this one
+abbrev UpTo : ℕ → Option ℕ → Type 0
+UpTo n None = Unit {0}
+UpTo n (Some place) = place ≤ n
+
+one_of_two : (b : Bool) (n place : ℕ) (other : Option ℕ) → place ≤ n → UpTo n other → UpTo n (if b then Some place else other)
+one_of_two true n place other here there = here
+one_of_two false n place other here there = there
+
+line_up_to : (lines : List ProgLine) (number base : ℕ) → UpTo (base + length (rows_of lines)) (line_among lines number base)
+line_up_to [] number base = tt
+line_up_to (line ∷ lines) number base =
+    let more : length (rows_of (line ∷ lines)) ≡ length line.items + length (rows_of lines) = rows_more line lines in
+    let same : base + length line.items + length (rows_of lines) ≡ base + length (rows_of (line ∷ lines)) = omega (arith, more) in
+    one_of_two (line.number == number) (base + length (rows_of (line ∷ lines))) base (line_among lines number (base + length line.items)) (omega arith)
+    (subst (λ n. UpTo n (line_among lines number (base + length line.items))) same (line_up_to lines number (base + length line.items)))
+
+rest_of_two : (b : Bool) (line : ProgLine) (lines : List ProgLine) (place : ℕ) → nat_lt place (length line.items) ≡ b → place < length line.items + length (rows_of lines)
+    → ((p : ℕ) → p < length (rows_of lines) → p + 1 + length (rest_among lines p) ≤ length (rows_of lines))
+    → place + 1 + length (if b then drop (place + 1) line.items else rest_among lines (place - length line.items)) ≤ length line.items + length (rows_of lines)
+rest_of_two true line lines place is few rest = omega (arith, ltb-true place (length line.items) is, length-drop (place + 1) line.items)
+rest_of_two false line lines place is few rest =
+    let past : length line.items ≤ place = ltb-false place (length line.items) is in
+    omega (arith, past, rest (place - length line.items) (omega (arith, past, few)))
+
+rest_up_to : (lines : List ProgLine) (place : ℕ) → place < length (rows_of lines) → place + 1 + length (rest_among lines place) ≤ length (rows_of lines)
+rest_up_to [] place few = absurd (omega (arith, few))
+rest_up_to (line ∷ lines) place few =
+    let more : length (rows_of (line ∷ lines)) ≡ length line.items + length (rows_of lines) = rows_more line lines in
+    omega (arith, more, rest_of_two (nat_lt place (length line.items)) line lines place refl (omega (arith, more, few)) (rest_up_to lines))
+
+else_up_to : (items : List Item) (place : ℕ) → after_else items place ≤ place + length items
+else_up_to [] place = omega arith
+else_up_to (item.Else ∷ items) place = omega arith
+else_up_to (_ ∷ items) place = omega (arith, else_up_to items (place + 1))
+
+module _ (prog : Prog) where
+  abbrev pub total : ℕ
+  total = length (rows prog)
+
+  abbrev pub Reaches : Op → Type 0
+  Reaches (o.Go item) = item ≤ total
+  Reaches (o.GoIfZero item) = item ≤ total
+  Reaches (o.HandleAll item) = item ≤ total
+  Reaches (o.HandleHere item) = item ≤ total
+  Reaches _ = Unit {0}
+
+  abbrev pub AllReach : List Op → Type 0
+  AllReach [] = Unit {0}
+  AllReach (op ∷ ops) = Reaches op × AllReach ops
+
+  append_reach : (xs ys : List Op) → AllReach xs → AllReach ys → AllReach (xs ++ ys)
+  append_reach [] ys a b = b
+  append_reach (x ∷ xs) ys a b = (a.0, append_reach xs ys a.1 b)
+
+  module _ (line : ℕ) where
+    read_reach : (cell : Cell) → Reaches (read_op line cell)
+    read_reach (Resident index) = tt
+    read_reach (Integer name) = tt
+
+    store_reach : (cell : Cell) → Reaches (store_op cell)
+    store_reach (Resident index) = tt
+    store_reach (Integer name) = tt
+
+    unary_reach : (op : UnaryOp) → AllReach (unary_code line op)
+    unary_reach unary.Plus = tt
+    unary_reach unary.Minus = (tt, tt)
+    unary_reach unary.Not = (tt, tt)
+    unary_reach unary.Abs = (tt, tt)
+    unary_reach unary.Sgn = (tt, tt)
+    unary_reach unary.Int = tt
+
+    expr_reach : (x : NumExpr) → AllReach (expr_code prog line x)
+    unfolding expr_code
+    expr_reach (num.Number value) = (tt, tt)
+    expr_reach num.True = (tt, tt)
+    expr_reach num.False = (tt, tt)
+    expr_reach num.Count = (tt, tt)
+    expr_reach (num.Variable (var.Simple name)) = (read_reach (integer_cell prog.names name), tt)
+    expr_reach (num.Bracket' _ (held x _)) = expr_reach x
+    expr_reach (num.Unary' op _ (held x _)) = append_reach (expr_code prog line x) (unary_code line op) (expr_reach x) (unary_reach op)
+    expr_reach (num.Binary' op _ (held x _) _ (held y _)) =
+        append_reach (expr_code prog line x) (expr_code prog line y ++ o.Binary op line ∷ []) (expr_reach x)
+        (append_reach (expr_code prog line y) (o.Binary op line ∷ []) (expr_reach y) (tt, tt))
+    expr_reach _ = (tt, (tt, tt))
+
+    then_reach : (x : NumExpr) (op : Op) (ops : List Op) → Reaches op → AllReach ops → AllReach (expr_code prog line x ++ op ∷ ops)
+    then_reach x op ops a b = append_reach (expr_code prog line x) (op ∷ ops) (expr_reach x) (a, b)
+
+    text_reach : (x : StrExpr) → AllReach (text_code x)
+    text_reach (str.Literal number) = (tt, tt)
+    text_reach _ = (tt, (tt, tt))
+
+    assignment_reach : (a : Assignment) → AllReach (assignment_code prog line a)
+    assignment_reach (assigns.Number (target.Variable (var.Simple name)) x) = then_reach x (store_op (integer_cell prog.names name)) [] (store_reach (integer_cell prog.names name)) tt
+    assignment_reach (assigns.Add (target.Variable (var.Simple name)) x) =
+        (read_reach (integer_cell prog.names name), then_reach x _ (store_op (integer_cell prog.names name) ∷ []) tt (store_reach (integer_cell prog.names name), tt))
+    assignment_reach (assigns.Subtract (target.Variable (var.Simple name)) x) =
+        (read_reach (integer_cell prog.names name), then_reach x _ (store_op (integer_cell prog.names name) ∷ []) tt (store_reach (integer_cell prog.names name), tt))
+    assignment_reach _ = (tt, tt)
+
+    print_reach : (padded new_line : Bool) (parts : List PrintPart) → AllReach (print_code prog line padded new_line parts)
+    unfolding print_code
+    print_reach padded true [] = (tt, tt)
+    print_reach padded false [] = tt
+    print_reach padded new_line (prints.Comma ∷ parts) = (tt, print_reach true true parts)
+    print_reach padded new_line (prints.Semicolon ∷ parts) = print_reach false false parts
+    print_reach padded new_line (prints.NewLine ∷ parts) = (tt, print_reach padded true parts)
+    print_reach padded new_line (prints.Number format x ∷ parts) = then_reach x (o.WriteNumber padded format) _ tt (print_reach padded true parts)
+    print_reach padded new_line (prints.Text x ∷ parts) = append_reach (text_code x) (o.WriteText ∷ print_code prog line padded true parts) (text_reach x) (tt, print_reach padded true parts)
+    print_reach padded new_line (prints.Spaces x ∷ parts) = then_reach x (o.Write pieces.Spaces) _ tt (print_reach padded true parts)
+    print_reach padded new_line (prints.Tab x ∷ parts) = then_reach x (o.Write pieces.Tab) _ tt (print_reach padded true parts)
+
+    vdu_reach : (parts : List VduPart) → AllReach (vdu_code prog line parts)
+    unfolding vdu_code
+    vdu_reach [] = tt
+    vdu_reach (sends.Byte x ∷ parts) = then_reach x (o.Write pieces.Byte) _ tt (vdu_reach parts)
+    vdu_reach (sends.Word x ∷ parts) = then_reach x (o.Write pieces.Word) _ tt (vdu_reach parts)
+
+    output_reach : (w : Output) → AllReach (output_code prog line w)
+    output_reach (writes.Print parts) = print_reach true true parts
+    output_reach (writes.Vdu parts) = vdu_reach parts
+    output_reach (writes.Mode x) = then_reach x (o.Write pieces.Mode) [] tt tt
+    output_reach (writes.Colour x) = then_reach x (o.Write pieces.Colour) [] tt tt
+    output_reach writes.Cls = (tt, tt)
+
+    go_reach : (to : Option ℕ) → UpTo total to → AllReach (go_op to line ∷ [])
+    go_reach None up_to = (tt, tt)
+    go_reach (Some place) up_to = (up_to, tt)
+
+    goto_up_to : (number : ℕ) → UpTo total (line_place prog number)
+    goto_up_to number = subst (λ n. UpTo n (line_place prog number)) (zero-add total) (line_up_to prog.lines number 0)
+
+    flow_reach : (w : Flow) → AllReach (flow_op prog line w ∷ [])
+    flow_reach (flow.Goto number) = go_reach (line_place prog number) (goto_up_to number)
+    flow_reach flow.Stop = (tt, tt)
+    flow_reach _ = (tt, tt)
+
+    statement_reach : (s : Stmt) → AllReach (statement_code prog line s)
+    statement_reach (stmt.Assign a) = assignment_reach a
+    statement_reach (stmt.Flow w) = flow_reach w
+    statement_reach (stmt.Output w) = output_reach w
+    statement_reach _ = (tt, tt)
+
+    item_reach : (place : ℕ) (i : Item) → place < total → AllReach (item_code prog place line i)
+    item_reach place (item.Stmt s) few = statement_reach s
+    item_reach place (item.If x) few =
+        then_reach x (o.GoIfZero (else_place prog place)) []
+        (omega (arith, else_up_to (rest_of_line prog place) (place + 1), rest_up_to prog.lines place few)) tt
+    item_reach place item.Else few = (rest_up_to prog.lines place few, tt)
+    item_reach place item.Remark few = tt
+    item_reach place _ few = (tt, tt)
+
+  jump_reach : (place : ℕ) (ops : List Op) → place < total → AllReach ops → AllReach (or_jump (place + 1) ops)
+  jump_reach place [] few all = (omega (arith, few), tt)
+  jump_reach place (op ∷ ops) few all = all
+
+  codes_from_reach : (rs : List Row) (base : ℕ) → base + length rs ≡ total → AllReach (joined (codes_from prog base rs))
+  codes_from_reach [] base is = tt
+  codes_from_reach (r ∷ rs) base is =
+      append_reach (row_code prog base r) (joined (codes_from prog (base + 1) rs))
+      (jump_reach base (item_code prog base r.line r.item) (omega (arith, is)) (item_reach r.line base r.item (omega (arith, is))))
+      (codes_from_reach rs (base + 1) (omega (arith, is)))
+
+  codes_reach : AllReach (joined (codes prog))
+  unfolding codes
+  codes_reach = codes_from_reach (rows prog) 0 (zero-add total)
+
+  abbrev some_or : Op → Option Op → Op
+  some_or d None = d
+  some_or d (Some op) = op
+
+  each_reaches : (ops : List Op) (pc : ℕ) (op : Op) → AllReach ops → slice_get ops pc ≡ Some op → Reaches op
+  each_reaches [] pc op all is = absurd (subst IsNot is tt)
+  each_reaches (x ∷ ops) zero op all is = subst Reaches (ap (some_or x) is) all.0
+  each_reaches (x ∷ ops) (suc k) op all is = each_reaches ops k op all.1 is
+
+  pub reaches : (pc : ℕ) (op : Op) → slice_get (joined (codes prog)) pc ≡ Some op → Reaches op
+  reaches pc op is = each_reaches (joined (codes prog)) pc op codes_reach is
