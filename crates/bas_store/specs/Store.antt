@@ -32,11 +32,12 @@ abbrev pub content_of : BasValue → Value
 content_of (held.Num v) = Number v
 content_of (held.Text v) = Text v
 
--- the number or the string that may be there, or the error that the variable was never made
+-- the number that may be there, or the error that the variable was never made
 abbrev pub number_answer : Option ℤ → Result BasValue ℕ
 number_answer None = Err unknown_variable
 number_answer (Some v) = Ok (held.Num v)
 
+-- the string that may be there, or that error
 abbrev pub text_answer : Option (List ℕ) → Result BasValue ℕ
 text_answer None = Err unknown_variable
 text_answer (Some v) = Ok (held.Text v)
