@@ -1,10 +1,10 @@
 -- Whole programs, and what each of them shows of itself, by computing. Each stands as it lists over its name.
 use Rattle.std.proofs.Common.{◌≡◌, refl}
-use Rattle.std.specs.Prelude.{ℕ, pos, negsuc, List, [], ◌∷◌, ◌++◌, codes}
+use Rattle.std.specs.Prelude.{ℕ, pos, negsuc, List, [], ◌∷◌, ◌++◌, Some, codes}
 use denote.Hole.Carrier.{hidden}
 use Rattle.bas_ast.specs.declared.expressions.Any.TheBlock.{hidden-the_row-NumExpr-0}
 use Rattle.bas_ast.specs.declared.expressions.BinaryOp.TheVariants as op
-use Rattle.bas_ast.specs.declared.expressions.NumberFormat.TheVariants.{Decimal}
+use Rattle.bas_ast.specs.declared.expressions.NumberFormat.TheVariants.{Decimal, Hexadecimal}
 use Rattle.bas_ast.specs.declared.expressions.NumExpr.{NumExpr}
 use Rattle.bas_ast.specs.declared.expressions.NumExpr.TheVariants as num
 use Rattle.bas_ast.specs.declared.expressions.StrExpr.TheVariants as str
@@ -22,6 +22,7 @@ use Rattle.bas_ast.specs.declared.statements.Output.TheVariants as writes
 use Rattle.bas_ast.specs.declared.statements.PrintPart.{PrintPart}
 use Rattle.bas_ast.specs.declared.statements.PrintPart.TheVariants as prints
 use Rattle.bas_ast.specs.declared.statements.Stmt.TheVariants as stmt
+use Rattle.bas_ast.specs.declared.statements.VduPart.TheVariants as sends
 use Rattle.bas_ast.specs.declared.targets.NumTarget.TheVariants as target
 use Rattle.bas_value.specs.Output.{new_line, spaces}
 use Rattle.bv_base.specs.Bytes.{zeros}
@@ -31,8 +32,8 @@ use Rattle.bv_run.specs.Outcome.{Outcome, Over, Going}
 use Rattle.bv_run.specs.declared.report.Report.{Report}
 use Rattle.bv_run.specs.declared.report.Report.TheVariants.{Done, Failed}
 use Rattle.bas_sem.specs.Evaluate.{evaluate}
-use Rattle.bas_sem.specs.Items.{print}
-use Rattle.bas_sem.specs.Meaning.{execute, source_run}
+use Rattle.bas_sem.specs.Items.{print, vdu}
+use Rattle.bas_sem.specs.Meaning.{execute, source_run, latest_place}
 
 -- a program of lines, integers and string literals
 abbrev program : List ProgLine → List (List ℕ) → List (List ℕ) → Prog
@@ -192,3 +193,74 @@ clears_column input = refl
 stops : (input : List ℕ) → source_run (program (a_line 10 (item.Stmt (stmt.Flow flow.Stop) ∷ []) ∷ []) [] []) input 1 ≡ ends (failure (codes "STOP")) (Failed (pos 0) 10)
 unfolding source_run execute digits
 stops input = refl
+
+-- 10 PRINT "abcdefghij",1: at a multiple of ten a comma writes nothing
+comma_at_ten : (input : List ℕ) → source_run (program (a_line 10 (print_parts (text 0 ∷ prints.Comma ∷ decimal (number 1) ∷ []) ∷ []) ∷ []) [] (codes "abcdefghij" ∷ [])) input 1
+    ≡ ends (codes "abcdefghij" ++ spaces 9 ++ codes "1" ++ new_line) Done
+unfolding source_run execute print evaluate digits
+comma_at_ten input = refl
+
+-- 10 PRINT TAB(3);"a";TAB(1);"b": to a column that is past on a new line
+tabs : (input : List ℕ) → source_run (program (a_line 10 (print_parts (prints.Tab (number 3) ∷ prints.Semicolon ∷ text 0 ∷ prints.Semicolon ∷ prints.Tab (number 1)
+    ∷ prints.Semicolon ∷ text 1 ∷ []) ∷ []) ∷ []) [] (codes "a" ∷ codes "b" ∷ [])) input 1
+    ≡ ends (spaces 3 ++ codes "a" ++ new_line ++ spaces 1 ++ codes "b" ++ new_line) Done
+unfolding source_run execute print evaluate
+tabs input = refl
+
+-- 10 PRINT SPC 258;1;~255: SPC takes the low byte, and `~` writes hexadecimal digits
+spaces_and_hexadecimal : (input : List ℕ) → source_run (program (a_line 10 (print_parts (prints.Spaces (number 258) ∷ prints.Semicolon ∷ decimal (number 1) ∷ prints.Semicolon
+    ∷ prints.Number Hexadecimal (number 255) ∷ []) ∷ []) ∷ []) [] []) input 1
+    ≡ ends (spaces 2 ++ codes "1FF" ++ new_line) Done
+unfolding source_run execute print evaluate digits
+spaces_and_hexadecimal input = refl
+
+-- 10 PRINT 1;2'3: a new line doesn't end the writing without padding
+unpadded_after_line : (input : List ℕ) → source_run (program (a_line 10 (print_parts (decimal (number 1) ∷ prints.Semicolon ∷ decimal (number 2) ∷ prints.NewLine
+    ∷ decimal (number 3) ∷ []) ∷ []) ∷ []) [] []) input 1
+    ≡ ends (spaces 9 ++ codes "12" ++ new_line ++ codes "3" ++ new_line) Done
+unfolding source_run execute print evaluate digits
+unpadded_after_line input = refl
+
+-- 10 VDU 65;66:PRINT COUNT: a word and a byte, which don't count
+vdu_counts_nothing : (input : List ℕ) → source_run (program (a_line 10 (item.Stmt (stmt.Output (writes.Vdu (sends.Word (number 65) ∷ sends.Byte (number 66) ∷ [])))
+    ∷ print_one num.Count ∷ []) ∷ []) [] []) input 2
+    ≡ ends (65 ∷ 0 ∷ 66 ∷ (spaces 9 ++ codes "0" ++ new_line)) Done
+unfolding source_run execute print vdu evaluate digits
+vdu_counts_nothing input = refl
+
+-- 10 MODE 263:COLOUR -1
+low_bytes : (input : List ℕ) → source_run (program (a_line 10 (item.Stmt (stmt.Output (writes.Mode (number 263))) ∷ item.Stmt (stmt.Output (writes.Colour (minus 1))) ∷ []) ∷ []) [] []) input 2
+    ≡ ends (22 ∷ 7 ∷ 17 ∷ 255 ∷ []) Done
+unfolding source_run execute evaluate hidden-the_row-NumExpr-0 hidden
+low_bytes input = refl
+
+-- 10 a%+=1
+never_made_before : (input : List ℕ) → source_run (program (a_line 10 (item.Stmt (stmt.Assign (assigns.Add (target.Variable (var.Simple 0)) (number 1))) ∷ []) ∷ [])
+    (codes "a%" ∷ []) []) input 1
+    ≡ ends (failure (codes "Unknown or missing variable")) (Failed (pos 26) 10)
+unfolding source_run execute evaluate digits
+never_made_before input = refl
+
+-- 10 A%=5:A%-=7:PRINT ;A%
+subtracts : (input : List ℕ) → source_run (program (a_line 10 (let_be 0 (number 5) ∷ item.Stmt (stmt.Assign (assigns.Subtract (target.Variable (var.Simple 0)) (number 7)))
+    ∷ print_parts (prints.Semicolon ∷ decimal (variable 0) ∷ []) ∷ []) ∷ []) (codes "A%" ∷ []) []) input 3
+    ≡ ends (codes "-2" ++ new_line) Done
+unfolding source_run execute print evaluate digits
+subtracts input = refl
+
+-- 10 IF 1 THEN 30 / 20 PRINT 1 / 30 REM / 40 PRINT 2: the GOTO after THEN takes a step of its own
+abbrev jumping : Prog
+jumping = program (a_line 10 (item.If (number 1) ∷ goto 30 ∷ []) ∷ a_line 20 (print_one (number 1) ∷ []) ∷ a_line 30 (item.Remark ∷ []) ∷ a_line 40 (print_one (number 2) ∷ []) ∷ []) [] []
+
+jumps : (input : List ℕ) → source_run jumping input 4 ≡ ends (spaces 9 ++ codes "2" ++ new_line) Done
+unfolding source_run execute print evaluate digits
+jumps input = refl
+
+one_step_short : (input : List ℕ) → source_run jumping input 3 ≡ goes_on []
+unfolding source_run execute evaluate
+one_step_short input = refl
+
+-- the third step executes the item at place 3, which is the remark
+third_step : (input : List ℕ) → latest_place jumping input 3 ≡ Some 3
+unfolding latest_place execute evaluate
+third_step input = refl

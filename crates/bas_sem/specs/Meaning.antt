@@ -5,7 +5,7 @@ use Rattle.bas_store.specs.Cells.{Value as Content}
 use Rattle.bv_run.specs.Outcome.{Outcome}
 use Rattle.bv_run.specs.Outcome as outcomes
 use Rattle.bv_run.specs.declared.report.Report.TheVariants.{Done}
-use Rattle.bas_sem.specs.State.{start}
+use Rattle.bas_sem.specs.State.{State, start}
 use Rattle.bas_sem.specs.Course.{Course, Value, Raised, Over, Spent, Action, ◌>>=◌, ◌>>◌, over}
 use Rattle.bas_sem.specs.Actions.{take_step}
 use Rattle.bas_sem.specs.Calls.{Level, outermost, call, handling, onward}
@@ -37,3 +37,15 @@ outcome_of (Spent s) = outcomes.Going s.output s.arena
 -- the run of a program on an input, at a bound of n steps
 unfoldable pub source_run : Prog → List ℕ → ℕ → Outcome
 source_run prog input n = outcome_of (execute prog n outermost 0 (start prog.names input n))
+
+-- the state of what a piece of a run came to
+abbrev pub state_of : {A : Type 0} → Course A → State
+state_of (Value value s) = s
+state_of (Raised handler s) = s
+state_of (Over report s) = s
+state_of (Spent s) = s
+
+-- The place of the item that the latest of the first n steps of a run executed, if it executed one: where the run has not ended
+-- before, that is the item which step n executes.
+unfoldable pub latest_place : Prog → List ℕ → ℕ → Option ℕ
+latest_place prog input n = (state_of (execute prog n outermost 0 (start prog.names input n))).latest
