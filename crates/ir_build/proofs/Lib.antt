@@ -11,3 +11,4 @@ pub mod Agreement
 pub mod Weights
 mod Reaching
 mod LaidOut
+mod CallExamples
