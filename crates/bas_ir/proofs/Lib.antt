@@ -1,3 +1,4 @@
 pub mod EffectHeights
 pub mod StepPairs
 pub mod LongerRuns
+mod Handled

@@ -3,7 +3,9 @@
 #![tactic(auto)]
 
 mod ir;
+mod laws;
 mod op;
 
 pub use ir::{Height, Ir, LineStart, Routine};
+pub use laws::errors_handled;
 pub use op::{CallKind, Mark, Op, Piece};

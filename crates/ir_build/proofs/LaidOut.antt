@@ -4,14 +4,14 @@ use Rattle.std.specs.Prelude.{Bool, true, false, flat_map, slice_get, slice_inde
 use Rattle.bas_ast.specs.declared.program.Prog.{Prog}
 use Rattle.bas_ir.specs.declared.ir.Height.{Height}
 use Rattle.bas_ir.specs.declared.op.Op.{Op}
-use Rattle.bas_ir.specs.Heights.{IsFed, level_ground, height_after}
+use Rattle.bas_ir.specs.Heights.{Suffices, empty_height, height_after}
 use Rattle.bas_ir.specs.Places.{start_of, item_from, is_marked}
 use Rattle.bas_ir.specs.WellFormed.{Flows, IsReached, IsLaidOut}
 use Rattle.bas_ir.specs.declared.op.Op.TheVariants as o
 use Rattle.ir_build.proofs.Reaching.{total, Reaches, reaches}
 use Rattle.bas_sem.specs.Places.{Row, rows}
 use Rattle.ir_build.specs.Code.{joined, unmarked_all, marks_of, joined_marks, starts_from, start_at, heights_of, codes_from, codes, flat_code}
-use Rattle.ir_build.proofs.Feeding.{Fed, row_fed}
+use Rattle.ir_build.proofs.Sufficiency.{Enough, row_suffices}
 use Rattle.ir_build.proofs.Joined.{AreFull, IsItem, length_marks, start_item}
 use Rattle.ir_build.proofs.Spots.{codes_full, start_of-is}
 
@@ -31,40 +31,40 @@ pub marks_long : (cs : List (List Op)) → length (joined_marks cs) ≡ length (
 marks_long [] = refl
 marks_long (c ∷ cs) = length-append (marks_of c) (joined_marks cs) ∙ (λ i. length_marks c i + marks_long cs i) ∙ sym (length-append c (joined cs))
 
-pub heights_long : (cs : List (List Op)) → length (flat_map (heights_of (Some level_ground)) cs) ≡ length (joined cs)
+pub heights_long : (cs : List (List Op)) → length (flat_map (heights_of (Some empty_height)) cs) ≡ length (joined cs)
 heights_long [] = refl
 heights_long (c ∷ cs) =
-    length-append (heights_of (Some level_ground) c) (flat_map (heights_of (Some level_ground)) cs)
-    ∙ (λ i. all_heights (Some level_ground) c i + heights_long cs i) ∙ sym (length-append c (joined cs))
+    length-append (heights_of (Some empty_height) c) (flat_map (heights_of (Some empty_height)) cs)
+    ∙ (λ i. all_heights (Some empty_height) c i + heights_long cs i) ∙ sym (length-append c (joined cs))
 
--- every code of the list is fed
-abbrev AreFed : List (List Op) → Type 0
-AreFed [] = Unit {0}
-AreFed (c ∷ cs) = Fed c level_ground × AreFed cs
+-- the operations of every code find what they take
+abbrev AllSuffice : List (List Op) → Type 0
+AllSuffice [] = Unit {0}
+AllSuffice (c ∷ cs) = Enough c empty_height × AllSuffice cs
 
 -- what follows in the table of heights after an operation
 abbrev heights_in : Option Height → List Op → List (List Op) → List Height
-heights_in h c cs = heights_of h c ++ flat_map (heights_of (Some level_ground)) cs
+heights_in h c cs = heights_of h c ++ flat_map (heights_of (Some empty_height)) cs
 
 -- one operation in the middle of joined code
 pub record FlowsIn (ops : List Op) (marks : List Bool) (heights : List Height) (pc : ℕ) (op : Op) : Type 0 where
-  pub finds : height_after [] op (slice_index_or heights pc level_ground) ≡ Some (slice_index_or heights (suc pc) level_ground)
-  pub begins : slice_index_or marks pc false ≡ true → slice_index_or heights pc level_ground ≡ level_ground
+  pub finds : height_after [] op (slice_index_or heights pc empty_height) ≡ Some (slice_index_or heights (suc pc) empty_height)
+  pub begins : slice_index_or marks pc false ≡ true → slice_index_or heights pc empty_height ≡ empty_height
 
-ground : (h : Height) → (h.numbers ≡ 0) × (h.texts ≡ 0) → h ≡ level_ground
-ground h none = λ i. record { numbers = none.0 i; texts = none.1 i }
+is_empty_height : (h : Height) → (h.numbers ≡ 0) × (h.texts ≡ 0) → h ≡ empty_height
+is_empty_height h none = λ i. record { numbers = none.0 i; texts = none.1 i }
 
 -- the height after the operations of an item is that of the next item's first, or of the end
-next_ground : (cs : List (List Op)) → AreFull cs → slice_index_or (flat_map (heights_of (Some level_ground)) cs) 0 level_ground ≡ level_ground
-next_ground [] full = refl
-next_ground ([] ∷ cs) full = absurd full
-next_ground ((op ∷ c) ∷ cs) full = refl
+next_is_empty : (cs : List (List Op)) → AreFull cs → slice_index_or (flat_map (heights_of (Some empty_height)) cs) 0 empty_height ≡ empty_height
+next_is_empty [] full = refl
+next_is_empty ([] ∷ cs) full = absurd full
+next_is_empty ((op ∷ c) ∷ cs) full = refl
 
 -- the first height after an operation is what it leaves
-first_height : (h : Option Height) (c : List Op) (cs : List (List Op)) → IsFed [] c h → AreFull cs → h ≡ Some (slice_index_or (heights_in h c cs) 0 level_ground)
-first_height None c cs fed full = absurd fed
-first_height (Some h) [] cs fed full = ap Some (ground h fed ∙ sym (next_ground cs full))
-first_height (Some h) (op ∷ c) cs fed full = refl
+first_height : (h : Option Height) (c : List Op) (cs : List (List Op)) → Suffices [] c h → AreFull cs → h ≡ Some (slice_index_or (heights_in h c cs) 0 empty_height)
+first_height None c cs suffices full = absurd suffices
+first_height (Some h) [] cs suffices full = ap Some (is_empty_height h suffices ∙ sym (next_is_empty cs full))
+first_height (Some h) (op ∷ c) cs suffices full = refl
 
 abbrev IsNot : {A : Type 0} → Option A → Type 0
 IsNot None = Unit {0}
@@ -78,30 +78,30 @@ later : (ops : List Op) (marks : List Bool) (heights : List Height) (pc : ℕ) (
     → FlowsIn (first ∷ ops) (b ∷ marks) (h ∷ heights) (suc pc) op
 later ops marks heights pc op first b h flows = record { finds = flows.finds; begins = flows.begins }
 
-flows_in : (h : Option Height) (c : List Op) (cs : List (List Op)) (pc : ℕ) (op : Op) → IsFed [] c h → AreFull cs → AreFed cs → slice_get (c ++ joined cs) pc ≡ Some op
+flows_in : (h : Option Height) (c : List Op) (cs : List (List Op)) (pc : ℕ) (op : Op) → Suffices [] c h → AreFull cs → AllSuffice cs → slice_get (c ++ joined cs) pc ≡ Some op
     → FlowsIn (c ++ joined cs) (unmarked_all c ++ joined_marks cs) (heights_in h c cs) pc op
-flows_in None c cs pc op fed full all is = absurd fed
-flows_in (Some h) (x ∷ c) cs zero op fed full all is =
+flows_in None c cs pc op suffices full all is = absurd suffices
+flows_in (Some h) (x ∷ c) cs zero op suffices full all is =
     let same : x ≡ op = ap (or_else x) is in
     record {
-      finds = ap (λ q. height_after [] q h) (sym same) ∙ first_height (height_after [] x h) c cs fed full;
+      finds = ap (λ q. height_after [] q h) (sym same) ∙ first_height (height_after [] x h) c cs suffices full;
       begins = λ marked. absurd (no_mark marked);
     }
-flows_in (Some h) (x ∷ c) cs (suc k) op fed full all is = later _ _ _ k op x false h (flows_in (height_after [] x h) c cs k op fed full all is)
-flows_in (Some h) [] [] pc op fed full all is = absurd (subst IsNot is tt)
-flows_in (Some h) [] ([] ∷ cs) pc op fed full all is = absurd full
-flows_in (Some h) [] ((x ∷ c) ∷ cs) zero op fed full all is =
+flows_in (Some h) (x ∷ c) cs (suc k) op suffices full all is = later _ _ _ k op x false h (flows_in (height_after [] x h) c cs k op suffices full all is)
+flows_in (Some h) [] [] pc op suffices full all is = absurd (subst IsNot is tt)
+flows_in (Some h) [] ([] ∷ cs) pc op suffices full all is = absurd full
+flows_in (Some h) [] ((x ∷ c) ∷ cs) zero op suffices full all is =
     let same : x ≡ op = ap (or_else x) is in
     record {
-      finds = ap (λ q. height_after [] q level_ground) (sym same) ∙ first_height (height_after [] x level_ground) c cs all.0 full;
+      finds = ap (λ q. height_after [] q empty_height) (sym same) ∙ first_height (height_after [] x empty_height) c cs all.0 full;
       begins = λ marked. refl;
     }
-flows_in (Some h) [] ((x ∷ c) ∷ cs) (suc k) op fed full all is =
-    later _ _ _ k op x true level_ground (flows_in (height_after [] x level_ground) c cs k op all.0 full all.1 is)
+flows_in (Some h) [] ((x ∷ c) ∷ cs) (suc k) op suffices full all is =
+    later _ _ _ k op x true empty_height (flows_in (height_after [] x empty_height) c cs k op all.0 full all.1 is)
 
-codes_from-fed : (prog : Prog) (rs : List Row) (base : ℕ) → AreFed (codes_from prog base rs)
-codes_from-fed prog [] base = tt
-codes_from-fed prog (r ∷ rs) base = (row_fed prog base r, codes_from-fed prog rs (base + 1))
+codes_from-suffices : (prog : Prog) (rs : List Row) (base : ℕ) → AllSuffice (codes_from prog base rs)
+codes_from-suffices prog [] base = tt
+codes_from-suffices prog (r ∷ rs) base = (row_suffices prog base r, codes_from-suffices prog rs (base + 1))
 
 -- where an item starts, a mark stands, and the item is that one
 pub start_marked : (cs : List (List Op)) (item : ℕ) → AreFull cs → item < length cs → slice_index_or (joined_marks cs) (start_at cs item) false ≡ true
@@ -134,14 +134,14 @@ meant cs item found few (inl is) = is
 meant cs item found few (inr none) = absurd (there_is cs item few none.0)
 
 module _ (prog : Prog) where
-  codes_fed : AreFed (codes prog)
+  codes_suffices : AllSuffice (codes prog)
   unfolding codes
-  codes_fed = codes_from-fed prog (rows prog) 0
+  codes_suffices = codes_from-suffices prog (rows prog) 0
 
   flows : (pc : ℕ) (op : Op) → slice_get (flat_code prog).ops pc ≡ Some op → Flows (flat_code prog) pc op
   unfolding is_marked
   flows pc op is =
-      let inside : _ = flows_in (Some level_ground) [] (codes prog) pc op (refl, refl) (codes_full prog) codes_fed is in
+      let inside : _ = flows_in (Some empty_height) [] (codes prog) pc op (refl, refl) (codes_full prog) codes_suffices is in
       record { finds = inside.finds; begins = inside.begins }
 
   starts : (item : ℕ) → item < length (flat_code prog).starts

@@ -4,7 +4,7 @@ pub mod ItemDenotes
 pub mod Joined
 pub mod Spots
 pub mod StepDenotes
-pub mod Feeding
+pub mod Sufficiency
 pub mod Bounds
 pub mod Equality
 pub mod Agreement

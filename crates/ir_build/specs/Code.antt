@@ -32,7 +32,7 @@ use Rattle.bas_ir.specs.declared.op.Mark.TheVariants as marks
 use Rattle.bas_ir.specs.declared.op.Op.{Op}
 use Rattle.bas_ir.specs.declared.op.Op.TheVariants as o
 use Rattle.bas_ir.specs.declared.op.Piece.TheVariants as pieces
-use Rattle.bas_ir.specs.Heights.{height_after, level_ground}
+use Rattle.bas_ir.specs.Heights.{height_after, empty_height}
 use Rattle.bas_store.specs.Cells.{Cell, Resident, Integer, integer_cell}
 use Rattle.bas_value.specs.Errors.{no_such_line, stopped}
 use Rattle.bas_sem.specs.Places.{Row, rows, next_line, else_place, line_place}
@@ -199,7 +199,7 @@ line_starts_from codes (line ∷ lines) place =
 -- what is pending before each operation of an item
 abbrev pub heights_of : Option Height → List Op → List Height
 heights_of h [] = []
-heights_of None (op ∷ ops) = level_ground ∷ heights_of None ops
+heights_of None (op ∷ ops) = empty_height ∷ heights_of None ops
 heights_of (Some h) (op ∷ ops) = h ∷ heights_of (height_after [] op h) ops
 
 -- The flat code of a program.
@@ -208,7 +208,7 @@ flat_code prog = record {
   ops = joined (codes prog);
   marks = joined_marks (codes prog);
   starts = starts_from 0 (codes prog);
-  heights = flat_map (heights_of (Some level_ground)) (codes prog);
+  heights = flat_map (heights_of (Some empty_height)) (codes prog);
   routines = [];
   texts = prog.texts;
   names = prog.names;
