@@ -1,0 +1,10 @@
+pub mod States
+pub mod Values
+pub mod DataSteps
+pub mod TransferSteps
+pub mod BlockSteps
+pub mod CallSteps
+pub mod BranchSteps
+pub mod MemoryWords
+pub mod Start
+pub mod Steps
