@@ -1,0 +1,9 @@
+pub mod RowLaws
+pub mod Branches
+pub mod Ends
+pub mod Owed
+pub mod Sound
+pub mod Monotone
+pub mod Rules
+pub mod FragLaws
+pub mod WordLaws

@@ -1,0 +1,8 @@
+-- The definitions of fragments: the routine language, what a routine owes, rows of steps, and words.
+pub mod Places
+pub mod Language
+pub mod Instructions
+pub mod Demands
+pub mod Rows
+pub mod Runs
+pub mod Words

@@ -1,0 +1,12 @@
+//! Fragments of ARM code: words with labels, the language in which routines are written and proved, and the law that a
+//! routine's words do on the board what the language says. `Frag` puts code together; the language and its laws are in
+//! specs/ and proofs/.
+#![tactic(auto)]
+
+mod entries;
+mod frag;
+mod item;
+
+pub use entries::{Entry, Lib};
+pub use frag::Frag;
+pub use item::{Item, Label};
