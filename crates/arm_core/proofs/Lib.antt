@@ -8,3 +8,5 @@ pub mod BranchSteps
 pub mod MemoryWords
 pub mod Start
 pub mod Steps
+pub mod Comparisons
+pub mod Arena

@@ -165,7 +165,7 @@ is-put s pc m rd value x is low same small = record {
 }
 
 -- the flags are set by a result
-flagged_number : (n z c v : Bool) (s : Core) (r : Regs) → r.psr ≡ psr_of s → (with_flags n z c v r).psr ≡ psr_of (record s { n = n; z = z; c = c; v = v })
+pub flagged_number : (n z c v : Bool) (s : Core) (r : Regs) → r.psr ≡ psr_of s → (with_flags n z c v r).psr ≡ psr_of (record s { n = n; z = z; c = c; v = v })
 unfolding with_flags
 flagged_number n z c v s r is =
     let clear : psr_of s % 4 ≡ 0 = omega arith in
