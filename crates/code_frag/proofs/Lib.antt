@@ -7,3 +7,5 @@ pub mod Monotone
 pub mod Rules
 pub mod FragLaws
 pub mod WordLaws
+pub mod Loaded
+mod Example

@@ -3,12 +3,13 @@ use Rattle.std.proofs.Common.{◌≡◌, ℕ, zero, suc, ◌+◌, ◌-◌, ◌*�
 use Rattle.std.specs.List.{list_all}
 use Rattle.std.proofs.lemmas.Bool.{and_parts, cases_lt}
 use Rattle.std.proofs.lemmas.Int.{ints}
+use Rattle.bv_base.specs.Words.{AreWords}
 use Rattle.arm_isa.specs.declared.instruction.Instr.{Instr}
 use Rattle.arm_isa.specs.declared.instruction.Instr.TheVariants.{Branch}
 use Rattle.arm_isa.specs.Fields.{offset_field}
 use Rattle.arm_isa.specs.Valid.{is_valid}
 use Rattle.arm_isa.specs.Words.{IsValid, FitsOffset}
-use Rattle.arm_isa.proofs.RoundTrip.{means_at}
+use Rattle.arm_isa.proofs.RoundTrip.{means_at, word_of-lt}
 use Rattle.arm_isa.proofs.ValidLaws.{valid-branch}
 use Rattle.arm_isa.proofs.ValidTest.{valid_by_test}
 use Rattle.arm_core.specs.Core.{word}
@@ -142,3 +143,32 @@ stands-words f code base good few low has =
     (stands_from f.items (length f.places) f.places code base 0 good.items
     (all_implies (place_fits (length f.items)) (place_fits most_words) (place_fits-more (length f.items) most_words few) f.places good.places)
     (omega (arith, few)) low (subst (HasWords (words_from f.items f.places 0) code) first has))
+
+-- ---- as words of an image
+
+words_from-length : (is : List Item) (places : List (Option ℕ)) (at : ℕ) → length (words_from is places at) ≡ length is
+words_from-length [] places at = refl
+words_from-length (i ∷ is) places at = ap suc (words_from-length is places (at + 1))
+
+-- a fragment has as many words as items
+pub length-words_of : (f : FragState) → length (words_of f) ≡ length f.items
+unfolding words_of
+length-words_of f = words_from-length f.items f.places 0
+
+are_words_from : (is : List Item) (n : ℕ) (places : List (Option ℕ)) (at : ℕ) → list_all (item_fits n) is ≡ true → list_all (place_fits most_words) places ≡ true → at + length is ≤ most_words → AreWords (words_from is places at)
+are_words_from [] n places at fits fit few = tt
+are_words_from (Ins i ∷ is) n places at fits fit few =
+    let parts = and_parts (is_valid i) (list_all (item_fits n) is) fits in
+    (word_of-lt i (valid_item i n parts.0).fits, are_words_from is n places (at + 1) parts.1 fit (omega (arith, few)))
+are_words_from (Jump k link to ∷ is) n places at fits fit few =
+    let parts = and_parts (nat_lt k 16 && nat_lt to.number n) (list_all (item_fits n) is) fits in
+    let p = place_of places to.number in (
+      word_of-lt (Branch k link (distance at p)) (valid_jump n k link to.number at p parts.0 (omega (arith, few)) (place-within most_words places to.number fit)).fits,
+      are_words_from is n places (at + 1) parts.1 fit (omega (arith, few)),
+    )
+
+pub are-words : (f : FragState) → IsFrag f → length f.items ≤ most_words → AreWords (words_of f)
+unfolding words_of
+are-words f good few =
+    are_words_from f.items (length f.places) f.places 0 good.items
+    (all_implies (place_fits (length f.items)) (place_fits most_words) (place_fits-more (length f.items) most_words few) f.places good.places) (omega (arith, few))
