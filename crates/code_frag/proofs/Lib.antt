@@ -9,3 +9,4 @@ pub mod FragLaws
 pub mod WordLaws
 pub mod Loaded
 mod Example
+pub mod JoinLaws

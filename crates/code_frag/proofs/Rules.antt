@@ -1,15 +1,15 @@
 -- The rules of the routine language, in the order of execution: a proof follows its routine from the first instruction to
 -- the last, and each value that is loaded or computed gets a name of the author's.
-use Rattle.std.proofs.Common.{◌≡◌, ℕ, zero, suc, ◌%◌, ◌^◌, ◌<◌, Bool, true, false, if◌then◌else◌, List, Some, sym, subst, arith}
+use Rattle.std.proofs.Common.{◌≡◌, ℕ, zero, suc, ◌+◌, ◌*◌, ◌%◌, ◌^◌, ◌<◌, ◌≤◌, Bool, true, false, if◌then◌else◌, List, Some, sym, subst, ◌∙◌, arith, length}
 use Rattle.bv_base.specs.MemoryMap.{ram_end}
 use Rattle.bv_run.specs.declared.report.Report.{Report}
 use Rattle.arm_isa.specs.declared.instruction.Instr.{Instr}
-use Rattle.arm_isa.specs.declared.instruction.Instr.TheVariants.{Data, Single}
+use Rattle.arm_isa.specs.declared.instruction.Instr.TheVariants.{Data, Single, Block}
 use Rattle.arm2_alu.specs.declared.operations.Computed.{Computed}
 use Rattle.arm2_alu.specs.Operations.{is_test}
 use Rattle.arm2_alu.proofs.RegisterLaws.{updated}
 use Rattle.arm_core.specs.Core.{Core, put, word, put_word, meets, IsGood}
-use Rattle.arm_core.specs.Effects.{operand_in, result_of, flagged_by, moved_by, offset_in, report_in, return_place}
+use Rattle.arm_core.specs.Effects.{listed, stored_words, loaded_words, CanUseBlock, operand_in, result_of, flagged_by, moved_by, offset_in, report_in, return_place}
 use Rattle.code_frag.specs.Demands.{Exit, ToLabel, ToPlace, ToEnd, Out, Falls, Leaves, Post, instruction_owes, on_falls, Either, turns, rounds, Wp, Owes}
 use Rattle.code_frag.specs.Language.{Piece, Skip, Do, Seq, If, When, While, Repeat, Call, Leave, LeaveIf, LeaveTo, Halt}
 use Rattle.code_frag.specs.Places.{IsData}
@@ -161,6 +161,24 @@ module _ {Asks : ℕ → Core → Type 0} {Does : ℕ → Core → Out → Core 
       do_then (subst (λ c. (s.regs rn % 4 ≡ 0) × (s.regs rn < ram_end) × (word s.mem (s.regs rn) < 2 ^ 32 → Owes Asks Does rest Q (put rd (word s.mem (s.regs rn)) (put rn c s)))) (sym moves)
       (subst (λ b. (b % 4 ≡ 0) × (b < ram_end) × (word s.mem b < 2 ^ 32 → Owes Asks Does rest Q (put rd (word s.mem b) (put rn next s)))) (sym place)
       (aligned, inside, subst (λ y. y < 2 ^ 32 → Owes Asks Does rest Q (put rd y (put rn next s))) (sym is) rest_owes)))
+
+  -- STMDB Rn!,{..}: the registers of a list are stored below Rn, which takes the address of the first
+  pub push_all_then : {rn list : ℕ} {rest : Piece} {Q : Post} {s : Core} (a : ℕ) → moved_by false (s.regs rn) (4 * length (listed list)) ≡ a → a % 4 ≡ 0 → IsData a (4 * length (listed list))
+      → Owes Asks Does rest Q (record s { regs = updated s.regs rn a; mem = stored_words (listed list) s.regs s.mem a }) → Owes Asks Does (Seq (Do (Block 14 true false false true false rn list)) rest) Q s
+  push_all_then {rn} {list} {rest} {Q} {s} a place aligned data_is rest_owes =
+      let count = 4 * length (listed list) in
+      let base = moved_by false (s.regs rn) count in
+      let lowest : a ≡ base + 0 = sym place ∙ omega arith in
+      do_then (subst (λ b. (b % 4 ≡ 0) × IsData b count × Owes Asks Does rest Q (record s { regs = updated s.regs rn base; mem = stored_words (listed list) s.regs s.mem b })) lowest
+      (aligned, data_is, subst (λ b. Owes Asks Does rest Q (record s { regs = updated s.regs rn b; mem = stored_words (listed list) s.regs s.mem a })) (sym place) rest_owes))
+
+  -- LDMIA Rn!,{..}: the registers of a list take the words from Rn up, which takes the address after them
+  pub pull_all_then : {rn list : ℕ} {rest : Piece} {Q : Post} {s : Core} (a next : ℕ) → s.regs rn ≡ a → moved_by true (s.regs rn) (4 * length (listed list)) ≡ next → a % 4 ≡ 0 → a + 4 * length (listed list) ≤ ram_end
+      → (((b : ℕ) → word s.mem b < 2 ^ 32) → Owes Asks Does rest Q (record s { regs = loaded_words (listed list) s.mem a (updated s.regs rn next) })) → Owes Asks Does (Seq (Do (Block 14 false true false true true rn list)) rest) Q s
+  pull_all_then {rn} {list} {rest} {Q} {s} a next place moves aligned inside rest_owes =
+      let lowest : a ≡ s.regs rn + 0 = sym place ∙ omega arith in
+      do_then (subst (λ b. CanUseBlock b (length (listed list)) × (((c : ℕ) → word s.mem c < 2 ^ 32) → Owes Asks Does rest Q (record s { regs = loaded_words (listed list) s.mem b (updated s.regs rn (moved_by true (s.regs rn) (4 * length (listed list)))) }))) lowest
+      ((aligned, inside), subst (λ y. ((c : ℕ) → word s.mem c < 2 ^ 32) → Owes Asks Does rest Q (record s { regs = loaded_words (listed list) s.mem a (updated s.regs rn y) })) (sym moves) rest_owes))
 
   -- ---- calls
 
