@@ -27,26 +27,26 @@ use Rattle.code_frag.proofs.Rules.{Less, Turn, end_here, do_then, set_then, test
 
 -- ---- the routine: R1 spaces
 
-abbrev spaces_test : Piece
+abbrev pub spaces_test : Piece
 spaces_test = cmp 1 (num 0) ⨾ Skip
 
-abbrev spaces_turn : Piece
+abbrev pub spaces_turn : Piece
 spaces_turn = write_byte ⨾ sub 1 1 (num 1) ⨾ Skip
 
-abbrev spaces : Piece
+abbrev pub spaces : Piece
 spaces = mov 0 (num 32) ⨾ While spaces_test NE spaces_turn ⨾ Skip
 
 -- n spaces
-abbrev blanks : ℕ → List ℕ
+abbrev pub blanks : ℕ → List ℕ
 blanks n = replicate n 32
 
 -- R1 spaces are written, and all but R0, R1 and the flags is as it was
-record SpacesDoes (s : Core) (o : Out) (t : Core) : Type 0 where
-  falls : o ≡ Falls
-  out : t.out ≡ s.out ++ blanks (s.regs 1)
-  mem : t.mem ≡ s.mem
-  input : t.input ≡ s.input
-  kept : (k : ℕ) → 2 ≤ k → t.regs k ≡ s.regs k
+pub record SpacesDoes (s : Core) (o : Out) (t : Core) : Type 0 where
+  pub falls : o ≡ Falls
+  pub out : t.out ≡ s.out ++ blanks (s.regs 1)
+  pub mem : t.mem ≡ s.mem
+  pub input : t.input ≡ s.input
+  pub kept : (k : ℕ) → 2 ≤ k → t.regs k ≡ s.regs k
 
 -- ---- its proof
 
@@ -67,7 +67,7 @@ one_more zero = refl
 one_more (suc n) = (λ i. 32 ∷ one_more n i) ∙ ap blanks (let e : suc (n + 1) ≡ suc n + 1 = omega arith in e)
 
 -- what is asked at the routine's end
-abbrev AtEnd : Core → Post
+abbrev pub AtEnd : Core → Post
 AtEnd s = at_return (SpacesDoes s) s
 
 module _ {Asks : ℕ → Core → Type 0} {Does : ℕ → Core → Out → Core → Type 0} (s : Core) (good : IsGood s) where
@@ -115,7 +115,7 @@ module _ {Asks : ℕ → Core → Type 0} {Does : ℕ → Core → Out → Core 
             ));
       }))
 
-  spaces_owes : Owes Asks Does spaces (AtEnd s) s
+  pub spaces_owes : Owes Asks Does spaces (AtEnd s) s
   spaces_owes =
       set_then 32 refl refl
       (while_then (Spacing s) test (s.regs 1)

@@ -10,3 +10,4 @@ pub mod WordLaws
 pub mod Loaded
 mod Example
 pub mod JoinLaws
+mod ExampleFrame
