@@ -1,5 +1,6 @@
 -- Labels and entries where fragments are put together: places that stay, and a library's entries under other labels.
-use Rattle.std.proofs.Common.{◌≡◌, ◌≢◌, ℕ, zero, suc, ◌+◌, ◌*◌, ◌<◌, false, List, [], ◌∷◌, ◌++◌, length, map, slice_get, slice_set, Option, Some, refl, sym, ap, subst, ◌∙◌, arith}
+use Rattle.std.proofs.Common.{◌≡◌, ◌≢◌, ℕ, zero, suc, ◌+◌, ◌*◌, ◌<◌, false, List, [], ◌∷◌, ◌++◌, length, map, slice_get, slice_set, Option, Some, None, refl, sym, ap, subst, ◌∙◌, arith}
+use Rattle.std.specs.List.{list_all}
 use Rattle.arm2_machine.specs.Machine.{Machine}
 use Rattle.arm_core.specs.Core.{Core, IsAt}
 use Rattle.arm_core.specs.Effects.{return_place}
@@ -7,7 +8,7 @@ use Rattle.code_frag.specs.declared.item.Item.{Item}
 use Rattle.code_frag.specs.declared.item.Item.TheVariants.{Ins, Jump}
 use Rattle.code_frag.specs.Demands.{ToLabel, ToPlace, ToEnd, Out, Falls, Leaves}
 use Rattle.code_frag.specs.Runs.{Stands, SameCode, Comes, EndsAt, Meets}
-use Rattle.code_frag.specs.Words.{place_in, place_of, shifted_item, shifted_place}
+use Rattle.code_frag.specs.Words.{is_placed, place_in, place_of, shifted_item, shifted_place}
 use Rattle.code_frag.proofs.WordLaws.{label_address}
 
 -- ---- places
@@ -34,6 +35,12 @@ place-set_other (q ∷ qs) zero zero p apart = absurd (apart refl)
 place-set_other (q ∷ qs) zero (suc k) p apart = refl
 place-set_other (q ∷ qs) (suc l) zero p apart = refl
 place-set_other (q ∷ qs) (suc l) (suc k) p apart = place-set_other qs l k p (λ e. apart (ap suc e))
+
+-- labels that have places have them after a join
+pub placed-shifted : (count : ℕ) (qs : List (Option ℕ)) → list_all is_placed (map (shifted_place count) qs) ≡ list_all is_placed qs
+placed-shifted count [] = refl
+placed-shifted count (None ∷ qs) = refl
+placed-shifted count (Some p ∷ qs) = placed-shifted count qs
 
 shifted_there : (qs : List (Option ℕ)) (count l p : ℕ) → slice_get qs l ≡ Some (Some p) → place_of (map (shifted_place count) qs) l ≡ p + count
 shifted_there [] count l p there = cc

@@ -1,0 +1,5 @@
+//! The tests of `code_frag`, by its public calls alone.
+#![tactic(auto)]
+
+#[cfg(test)]
+mod fragments;
