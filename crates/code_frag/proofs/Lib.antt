@@ -11,3 +11,4 @@ pub mod Loaded
 mod Example
 pub mod JoinLaws
 mod ExampleFrame
+pub mod Kept

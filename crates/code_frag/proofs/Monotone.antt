@@ -3,6 +3,7 @@ use Rattle.std.proofs.Common.{ℕ, zero, suc, Bool, true, false}
 use Rattle.arm_isa.specs.declared.instruction.Instr.{Instr}
 use Rattle.arm_isa.specs.declared.instruction.Instr.TheVariants.{Data, Mul, Single, Block, Branch, Swi, Undefined}
 use Rattle.arm_core.specs.Core.{Core}
+use Rattle.arm_core.specs.Effects.{executed}
 use Rattle.code_frag.specs.Demands.{Out, Falls, Leaves, Post, transfer_owes, block_owes, instruction_owes, on_falls, turns, rounds, Wp}
 use Rattle.code_frag.specs.Language.{Piece, Skip, Do, Seq, If, When, While, Repeat, Call, Leave, LeaveIf, LeaveTo, Halt}
 
@@ -16,14 +17,18 @@ block_mono : (load : Bool) (a count : ℕ) (m : ℕ → ℕ) (P R : Type 0) → 
 block_mono true a count m P R implies owes = (owes.0, λ small. implies (owes.1 small))
 block_mono false a count m P R implies owes = (owes.0, owes.1, implies owes.2)
 
+-- what is asked after an instruction, at the core that it leaves
+pub instruction_with : (i : Instr) (P R : Core → Type 0) (s : Core) → (P (executed i s) → R (executed i s)) → instruction_owes i P s → instruction_owes i R s
+instruction_with (Data cond imm op flags rn rd op2) P R s implies owes = implies owes
+instruction_with (Mul cond acc flags rd rn rs rm) P R s implies owes = implies owes
+instruction_with (Single cond reg pre up byte wb load rn rd offset) P R s implies owes = transfer_mono load byte _ s.mem _ _ implies owes
+instruction_with (Block cond pre up psr wb load rn list) P R s implies owes = block_mono load _ _ s.mem _ _ implies owes
+instruction_with (Branch cond link words) P R s implies owes = implies owes
+instruction_with (Swi cond number) P R s implies owes = implies owes
+instruction_with (Undefined word) P R s implies owes = implies owes
+
 pub instruction_mono : (i : Instr) (P R : Core → Type 0) → ((t : Core) → P t → R t) → (s : Core) → instruction_owes i P s → instruction_owes i R s
-instruction_mono (Data cond imm op flags rn rd op2) P R implies s owes = implies _ owes
-instruction_mono (Mul cond acc flags rd rn rs rm) P R implies s owes = implies _ owes
-instruction_mono (Single cond reg pre up byte wb load rn rd offset) P R implies s owes = transfer_mono load byte _ s.mem _ _ (implies _) owes
-instruction_mono (Block cond pre up psr wb load rn list) P R implies s owes = block_mono load _ _ s.mem _ _ (implies _) owes
-instruction_mono (Branch cond link words) P R implies s owes = implies _ owes
-instruction_mono (Swi cond number) P R implies s owes = implies _ owes
-instruction_mono (Undefined word) P R implies s owes = implies _ owes
+instruction_mono i P R implies s owes = instruction_with i P R s (implies (executed i s)) owes
 
 -- demands at the end
 falls_mono : (f g : Core → Type 0) (P R : Post) → ((t : Core) → f t → g t) → ((o : Out) (t : Core) → P o t → R o t) → (o : Out) (t : Core) → on_falls f P o t → on_falls g R o t

@@ -97,18 +97,18 @@ transfer_code code true byte rd a s t Q kept owes same = record { kept = λ b lo
 transfer_code code false true rd a s t Q kept owes same = code-byte code s.mem a (s.regs rd % 2 ^ 8) owes.0 same
 transfer_code code false false rd a s t Q kept owes same = code-put code s.mem a (s.regs rd) owes.1 same
 
-base_mem : (b : Bool) (reg pre up : Bool) (rn offset : ℕ) (s : Core) → (if b then put rn (moved_by up (s.regs rn) (offset_in reg offset s)) s else s).mem ≡ s.mem
+pub base_mem : (b : Bool) (reg pre up : Bool) (rn offset : ℕ) (s : Core) → (if b then put rn (moved_by up (s.regs rn) (offset_in reg offset s)) s else s).mem ≡ s.mem
 base_mem true reg pre up rn offset s = refl
 base_mem false reg pre up rn offset s = refl
 
-data_mem : (b test flags : Bool) (rd : ℕ) (x : Computed) (s : Core)
+pub data_mem : (b test flags : Bool) (rd : ℕ) (x : Computed) (s : Core)
     → (if b then (if test then flagged_by x s else if flags then put rd x.value (flagged_by x s) else put rd x.value s) else s).mem ≡ s.mem
 data_mem false test flags rd x s = refl
 data_mem true true flags rd x s = refl
 data_mem true false true rd x s = refl
 data_mem true false false rd x s = refl
 
-product_mem : (flags : Bool) (rd value : ℕ) (s : Core) → (put rd value (if flags then flagged_by (record { value = value; carry = s.c; overflow = s.v }) s else s)).mem ≡ s.mem
+pub product_mem : (flags : Bool) (rd value : ℕ) (s : Core) → (put rd value (if flags then flagged_by (record { value = value; carry = s.c; overflow = s.v }) s else s)).mem ≡ s.mem
 product_mem true rd value s = refl
 product_mem false rd value s = refl
 
@@ -123,7 +123,7 @@ input_mem : (input : List ℕ) (s : Core) → (takes_input input s).mem ≡ s.me
 input_mem [] s = refl
 input_mem (byte ∷ rest) s = refl
 
-call_mem : (a b : Bool) (s : Core) (x y : List ℕ) → (if a then record s { out = x } else if b then record s { out = y } else takes_input s.input s).mem ≡ s.mem
+pub call_mem : (a b : Bool) (s : Core) (x y : List ℕ) → (if a then record s { out = x } else if b then record s { out = y } else takes_input s.input s).mem ≡ s.mem
 call_mem true b s x y = refl
 call_mem false true s x y = refl
 call_mem false false s x y = input_mem s.input s

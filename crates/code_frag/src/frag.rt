@@ -196,7 +196,8 @@ impl Frag {
         Ok(number)
     }
 
-    /// The words of a fragment whose first word stands at `base`, a multiple of 4. The only error is want of memory.
+    /// The words of a fragment whose first word stands at the address `base`. They are the same for every base, since branches
+    /// are relative. The only error is want of memory.
     pub fn resolve(&self, alloc: Global, base: u32) -> Result<Vec<u32>, NoMemory>
         requires placed { AllPlaced self.now }
         requires few { length self.now.items ≤ most_words }
