@@ -68,6 +68,7 @@ with_result op flags rd x s =
     else if flags then put rd x.value (flagged_by x s)
     else put rd x.value s
 
+-- an operation on Rn and the second operand
 abbrev pub computes : Bool → ℕ → Bool → ℕ → ℕ → ℕ → Core → Core
 computes imm op flags rn rd op2 s = with_result op flags rd (result_of op (s.regs rn) (operand_in imm op2 s) s.c s.v) s
 
@@ -99,13 +100,15 @@ address_of reg pre up rn offset s = if pre then moved_by up (s.regs rn) (offset_
 abbrev pub with_moved_base : Bool → Bool → Bool → Bool → ℕ → ℕ → Core → Core
 with_moved_base reg pre up wb rn offset s = if writes_back pre wb then put rn (moved_by up (s.regs rn) (offset_in reg offset s)) s else s
 
--- what is read, and the memory with what is stored
+-- what is read at an address
 abbrev pub read_at : Bool → (ℕ → ℕ) → ℕ → ℕ
 read_at byte m a = if byte then m a else word m a
 
+-- the memory with what is stored at an address
 abbrev pub stored_at : Bool → (ℕ → ℕ) → ℕ → ℕ → ℕ → ℕ
 stored_at byte m a x = if byte then updated m a (x % 2 ^ 8) else put_word m a x
 
+-- a load into Rd, or a store of it, beside what the base takes
 abbrev pub transfers : Bool → Bool → ℕ → ℕ → Core → Core → Core
 transfers load byte rd a s based =
     if load then put rd (read_at byte s.mem a) based
@@ -118,14 +121,16 @@ abbrev pub listed_among : ℕ → ℕ → ℕ → List ℕ
 listed_among zero n list = []
 listed_among (suc k) n list = if bit list n then n ∷ listed_among k (n + 1) list else listed_among k (n + 1) list
 
+-- the registers of a list, below R15
 abbrev pub listed : ℕ → List ℕ
 listed list = listed_among 15 0 list
 
--- the memory with registers from an address up, and the registers with the words from there up
+-- the memory with registers from an address up
 abbrev pub stored_words : List ℕ → (ℕ → ℕ) → (ℕ → ℕ) → ℕ → ℕ → ℕ
 stored_words [] regs m a = m
 stored_words (n ∷ ns) regs m a = stored_words ns regs (put_word m a (regs n)) (a + 4)
 
+-- the registers with the words from an address up
 abbrev pub loaded_words : List ℕ → (ℕ → ℕ) → ℕ → (ℕ → ℕ) → ℕ → ℕ
 loaded_words [] m a regs = regs
 loaded_words (n ∷ ns) m a regs = loaded_words ns m (a + 4) (updated regs n (word m a))
@@ -138,6 +143,7 @@ block_target up base count = moved_by up base (4 * count)
 abbrev pub block_begins : Bool → Bool → ℕ → ℕ → ℕ
 block_begins pre up base count = (if up then base else block_target up base count) + (if same pre up then 4 else 0)
 
+-- LDM or STM: the registers are stored as they were, the base too
 abbrev pub moves_block : Bool → Bool → Bool → Bool → ℕ → ℕ → Core → Core
 moves_block pre up wb load rn list s =
     let count = length (listed list) in
@@ -184,27 +190,34 @@ return_place x = x % 2 ^ 26 / 4 * 4
 -- The instructions that stand inside a piece: they are followed by the next one, concern R0 to R14 alone, and are neither
 -- undefined nor unpredictable.
 
+-- a register below R15, shifted by a number
 abbrev pub is_plain_register : ℕ → Bool
 is_plain_register op2 = nat_lt op2 (2 ^ 12) && (not (bit op2 4) && nat_lt (bits op2 3 0) R15)
 
+-- data processing: a test has S, and no field is R15
 abbrev pub is_plain_data : Bool → ℕ → Bool → ℕ → ℕ → ℕ → Bool
 is_plain_data imm op flags rn rd op2 =
     (not (is_test op) || flags) && (nat_lt rn R15 && (nat_lt rd R15 && (imm || is_plain_register op2)))
 
+-- LDR and STR: no field is R15, and the base that is written back is not loaded; not as in user mode
 abbrev pub is_plain_single : Bool → Bool → Bool → Bool → Bool → ℕ → ℕ → ℕ → Bool
 is_plain_single reg pre byte wb load rn rd offset =
     (pre || not wb) && (nat_lt rn R15 && (nat_lt rd R15 && (not (load && (writes_back pre wb && (rd == rn))) && (not reg || is_plain_register offset))))
 
+-- LDM and STM: without R15 and ^, of a list that is not empty, and a base that is written back is not in it
 abbrev pub is_plain_block : Bool → Bool → ℕ → ℕ → Bool
 is_plain_block psr wb rn list =
     not psr && (nat_lt rn R15 && (nat_lt list (2 ^ 15) && (not (list == 0) && not (wb && bit list rn))))
 
+-- MUL and MLA: Rd is not Rm, and no field is R15
 abbrev pub is_plain_multiply : ℕ → ℕ → ℕ → ℕ → Bool
 is_plain_multiply rd rn rs rm = not (rd == rm) && (nat_lt rd R15 && (nat_lt rn R15 && (nat_lt rs R15 && nat_lt rm R15)))
 
+-- the calls &00, &03 and &04
 abbrev pub is_plain_call : ℕ → Bool
 is_plain_call number = (number == swi_write) || ((number == swi_new_line) || (number == swi_read))
 
+-- by class; all but data processing are always made
 abbrev pub is_plain : Instr → Bool
 is_plain (Data cond imm op s rn rd op2) = is_plain_data imm op s rn rd op2
 is_plain (Mul cond acc s rd rn rs rm) = (cond == AL) && is_plain_multiply rd rn rs rm
@@ -232,6 +245,7 @@ abbrev pub CanUse : Bool → ℕ → Type 0
 CanUse true a = a < ram_end
 CanUse false a = (a % 4 ≡ 0) × (a < ram_end)
 
+-- the memory has the words of a block, which begins at a multiple of 4
 abbrev pub CanUseBlock : ℕ → ℕ → Type 0
 CanUseBlock start count = (start % 4 ≡ 0) × (start + 4 * count ≤ ram_end)
 

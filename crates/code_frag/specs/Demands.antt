@@ -32,10 +32,12 @@ transfer_owes true false a m Q = (a % 4 ≡ 0) × (a < ram_end) × (word m a < 2
 transfer_owes false true a m Q = IsData a 1 × Q
 transfer_owes false false a m Q = (a % 4 ≡ 0) × IsData a 4 × Q
 
+-- the same of a block of words
 abbrev pub block_owes : Bool → ℕ → ℕ → (ℕ → ℕ) → Type 0 → Type 0
 block_owes true a count m Q = CanUseBlock a count × (((b : ℕ) → word m b < 2 ^ 32) → Q)
 block_owes false a count m Q = (a % 4 ≡ 0) × IsData a (4 * count) × Q
 
+-- what an instruction owes, where something is asked after it
 abbrev pub instruction_owes : Instr → (Core → Type 0) → Core → Type 0
 instruction_owes (Data cond imm op flags rn rd op2) Q s = Q (executed (Data cond imm op flags rn rd op2) s)
 instruction_owes (Mul cond acc flags rd rn rs rm) Q s = Q (executed (Mul cond acc flags rd rn rs rm) s)
@@ -56,11 +58,12 @@ on_falls f Q (Leaves e) s = Q (Leaves e) s
 abbrev pub Either : Bool → Type 0 → Type 0 → Type 0
 Either b P Q = (b ≡ true → P) × (b ≡ false → Q)
 
--- at most n turns of a loop whose test comes first, and of one whose test comes last
+-- at most n turns of a loop whose test comes first
 abbrev pub turns : (Post → Core → Type 0) → ℕ → (Post → Core → Type 0) → Post → ℕ → Core → Type 0
 turns p k b Q zero s = ⊥
 turns p k b Q (suc n) s = p (on_falls (λ t. Either (meets k t) (b (on_falls (turns p k b Q n) Q) t) (Q Falls t)) Q) s
 
+-- at most n turns of a loop whose test comes last
 abbrev pub rounds : (Post → Core → Type 0) → ℕ → Post → ℕ → Core → Type 0
 rounds b k Q zero s = ⊥
 rounds b k Q (suc n) s = b (on_falls (λ t. Either (meets k t) (rounds b k Q n t) (Q Falls t)) Q) s

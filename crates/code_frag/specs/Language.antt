@@ -32,8 +32,8 @@ pub data Piece : Type 0 where
   -- the end of the run
   Halt : Piece
 
--- one piece after another
 infixr 40 ◌⨾◌
+-- one piece after another
 abbrev pub ◌⨾◌ : Piece → Piece → Piece
 a ⨾ b = Seq a b
 
@@ -43,18 +43,20 @@ a ⨾ b = Seq a b
 abbrev pub contrary : ℕ → ℕ
 contrary k = if k % 2 == 0 then k + 1 else k - 1
 
--- the distance of a branch over the n words after it, and of one to the first of the n words before it
+-- the distance of a branch over the n words after it
 abbrev pub over : ℕ → ℤ
 over zero = negsuc 0
 over (suc n) = pos n
 
+-- the distance of a branch to the first of the n words before it
 abbrev pub back_over : ℕ → ℤ
 back_over n = negsuc (n + 1)
 
--- a branch inside a piece, and MOV PC,Rm
+-- a branch inside a piece
 abbrev pub branch : ℕ → ℤ → Item
 branch k words = Ins (Branch k false words)
 
+-- MOV PC,Rm
 abbrev pub jump_to : ℕ → Item
 jump_to rm = Ins (Data AL false MOV false 0 R15 rm)
 

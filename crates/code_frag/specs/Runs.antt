@@ -14,12 +14,12 @@ use Rattle.code_frag.specs.Demands.{ToLabel, ToPlace, ToEnd, Out, Falls, Leaves,
 use Rattle.code_frag.specs.Places.{data_start}
 use Rattle.code_frag.specs.Rows.{Row, Rising}
 
--- The words of items stand in a memory from an address on: an instruction as it is, and a branch that leads to its label's
--- address. It stays closed, so that no goal shows a routine's words.
+-- the word of an item stands in a memory: an instruction as it is, and a branch that leads to its label's address
 abbrev pub StandsItem : (ℕ → ℕ) → (ℕ → ℕ) → ℕ → Item → Type 0
 StandsItem code entry pc (Ins i) = means (word code pc) ≡ i
 StandsItem code entry pc (Jump k link to) = (words : ℤ) × (means (word code pc) ≡ Branch k link words) × (target_of pc (offset_field words) ≡ entry to.number)
 
+-- Items stand in a memory from an address on. It stays closed, so that no goal shows the words of a routine.
 unfoldable pub Stands : List Item → (ℕ → ℕ) → (ℕ → ℕ) → ℕ → Type 0
 Stands [] code entry pc = Unit {0}
 Stands (i ∷ is) code entry pc = StandsItem code entry pc i × Stands is code entry (pc + 4)
@@ -68,6 +68,7 @@ pub record EndsAt (code entry : ℕ → ℕ) (flat : Bool) (Q : Post) (place nex
 pub record Meets (code entry : ℕ → ℕ) (Asks : ℕ → Core → Type 0) (Does : ℕ → Core → Out → Core → Type 0) (e : ℕ) : Type 0 where
   pub runs : (s : Core) (m : Machine) → SameCode code s.mem → IsAt s (entry e) m → Asks e s → EndsAt code entry false (Does e s) (entry e) (return_place (s.regs 14)) s m
 
+-- each entry of a list meets its contract
 abbrev pub MeetEach : (code entry : ℕ → ℕ) (Asks : ℕ → Core → Type 0) (Does : ℕ → Core → Out → Core → Type 0) → List ℕ → Type 0
 MeetEach code entry Asks Does [] = Unit {0}
 MeetEach code entry Asks Does (e ∷ es) = Meets code entry Asks Does e × MeetEach code entry Asks Does es
