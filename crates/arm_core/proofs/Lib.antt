@@ -10,3 +10,4 @@ pub mod Start
 pub mod Steps
 pub mod Comparisons
 pub mod Arena
+pub mod ShiftedOperands

@@ -54,7 +54,7 @@ unfolding Stands
 stands_front [] js code entry pc h = tt
 stands_front (i ∷ is) js code entry pc h = (h.0, stands_front is js code entry (pc + 4) h.1)
 
-stands_after : (is js : List Item) (code entry : ℕ → ℕ) (pc : ℕ) → Stands (is ++ js) code entry pc → Stands js code entry (pc + 4 * length is)
+pub stands_after : (is js : List Item) (code entry : ℕ → ℕ) (pc : ℕ) → Stands (is ++ js) code entry pc → Stands js code entry (pc + 4 * length is)
 unfolding Stands
 stands_after [] js code entry pc h = subst (Stands js code entry) (let e : pc ≡ pc + 4 * 0 = omega arith in e) h
 stands_after (i ∷ is) js code entry pc h =

@@ -8,7 +8,8 @@ use Rattle.code_frag.specs.declared.item.Item.{Item}
 use Rattle.code_frag.specs.declared.item.Item.TheVariants.{Ins, Jump}
 use Rattle.code_frag.specs.Demands.{ToLabel, ToPlace, ToEnd, Out, Falls, Leaves}
 use Rattle.code_frag.specs.Runs.{Stands, SameCode, Comes, EndsAt, Meets}
-use Rattle.code_frag.specs.Words.{is_placed, place_in, place_of, shifted_item, shifted_place}
+use Rattle.code_frag.specs.Words.{FragState, is_placed, place_in, place_of, shifted_item, shifted_place, joined}
+use Rattle.code_frag.proofs.Branches.{stands_front, stands_after}
 use Rattle.code_frag.proofs.WordLaws.{label_address}
 
 -- ---- places
@@ -64,6 +65,14 @@ unfolding Stands
 stands_shifted [] n code entry pc h = tt
 stands_shifted (Ins i ∷ is) n code entry pc h = (h.0, stands_shifted is n code entry (pc + 4) h.1)
 stands_shifted (Jump k link to ∷ is) n code entry pc h = (h.0, stands_shifted is n code entry (pc + 4) h.1)
+
+-- where the items of a joined fragment stand, those of its parts do, one after the other
+pub stands-joined : (a b : FragState) (code entry : ℕ → ℕ) (base : ℕ) → Stands (joined a b).items code entry base
+    → Stands a.items code entry base × Stands b.items code (λ l. entry (l + length a.places)) (base + 4 * length a.items)
+stands-joined a b code entry base h = (
+  stands_front a.items (map (shifted_item (length a.places)) b.items) code entry base h,
+  stands_shifted b.items (length a.places) code entry (base + 4 * length a.items) (stands_after a.items (map (shifted_item (length a.places)) b.items) code entry base h),
+)
 
 -- ---- contracts under other labels
 

@@ -1,15 +1,15 @@
 -- The rules of the routine language, in the order of execution: a proof follows its routine from the first instruction to
 -- the last, and each value that is loaded or computed gets a name of the author's.
-use Rattle.std.proofs.Common.{◌≡◌, ℕ, zero, suc, ◌+◌, ◌*◌, ◌%◌, ◌^◌, ◌<◌, ◌≤◌, Bool, true, false, if◌then◌else◌, List, Some, sym, subst, ◌∙◌, arith, length}
+use Rattle.std.proofs.Common.{◌≡◌, ℕ, zero, suc, ◌+◌, ◌-◌, ◌*◌, ◌%◌, ◌^◌, ◌<◌, ◌≤◌, Bool, true, false, if◌then◌else◌, List, [], ◌∷◌, ◌++◌, Some, refl, sym, subst, ◌∙◌, arith, length}
 use Rattle.bv_base.specs.MemoryMap.{ram_end}
 use Rattle.bv_run.specs.declared.report.Report.{Report}
 use Rattle.arm_isa.specs.declared.instruction.Instr.{Instr}
-use Rattle.arm_isa.specs.declared.instruction.Instr.TheVariants.{Data, Single, Block}
+use Rattle.arm_isa.specs.declared.instruction.Instr.TheVariants.{Data, Mul, Single, Block, Swi}
 use Rattle.arm2_alu.specs.declared.operations.Computed.{Computed}
 use Rattle.arm2_alu.specs.Operations.{is_test}
 use Rattle.arm2_alu.proofs.RegisterLaws.{updated}
 use Rattle.arm_core.specs.Core.{Core, put, word, put_word, meets, IsGood}
-use Rattle.arm_core.specs.Effects.{listed, stored_words, loaded_words, CanUseBlock, operand_in, result_of, flagged_by, moved_by, offset_in, report_in, return_place}
+use Rattle.arm_core.specs.Effects.{computes, on_condition, takes_input, listed, stored_words, loaded_words, CanUseBlock, operand_in, result_of, flagged_by, moved_by, offset_in, report_in, return_place}
 use Rattle.code_frag.specs.Demands.{Exit, ToLabel, ToPlace, ToEnd, Out, Falls, Leaves, Post, instruction_owes, on_falls, Either, turns, rounds, Wp, Owes}
 use Rattle.code_frag.specs.Language.{Piece, Skip, Do, Seq, If, When, While, Repeat, Call, Leave, LeaveIf, LeaveTo, Halt}
 use Rattle.code_frag.specs.Places.{IsData}
@@ -116,6 +116,37 @@ module _ {Asks : ℕ → Core → Type 0} {Does : ℕ → Core → Out → Core 
   test_then {imm} {op} {rn} {rd} {op2} {rest} {Q} {s} x test is owes =
       let r = result_of op (s.regs rn) (operand_in imm op2 s) s.c s.v in
       do_then (subst (λ b. Owes Asks Does rest Q (if b then flagged_by r s else put rd r.value (flagged_by r s))) (sym test) (subst (λ y. Owes Asks Does rest Q (flagged_by y s)) (sym is) owes))
+
+  -- data processing under a condition that holds, and under one that fails
+  pub set_where_then : {k : ℕ} {imm : Bool} {op rn rd op2 : ℕ} {rest : Piece} {Q : Post} {s : Core} (x : ℕ) → meets k s ≡ true → is_test op ≡ false → (result_of op (s.regs rn) (operand_in imm op2 s) s.c s.v).value ≡ x
+      → Owes Asks Does rest Q (put rd x s) → Owes Asks Does (Seq (Do (Data k imm op false rn rd op2)) rest) Q s
+  set_where_then {k} {imm} {op} {rn} {rd} {op2} {rest} {Q} {s} x holding no_test is owes =
+      let r = result_of op (s.regs rn) (operand_in imm op2 s) s.c s.v in
+      do_then (subst (λ b. Owes Asks Does rest Q (on_condition b (computes imm op false rn rd op2 s) s)) (sym holding)
+      (subst (λ b. Owes Asks Does rest Q (if b then flagged_by r s else put rd r.value s)) (sym no_test) (subst (λ y. Owes Asks Does rest Q (put rd y s)) (sym is) owes)))
+
+  pub skip_where_then : {k : ℕ} {imm flags : Bool} {op rn rd op2 : ℕ} {rest : Piece} {Q : Post} {s : Core} → meets k s ≡ false → Owes Asks Does rest Q s → Owes Asks Does (Seq (Do (Data k imm op flags rn rd op2)) rest) Q s
+  skip_where_then {k} {imm} {flags} {op} {rn} {rd} {op2} {rest} {Q} {s} fails owes =
+      do_then (subst (λ b. Owes Asks Does rest Q (on_condition b (computes imm op flags rn rd op2 s) s)) (sym fails) owes)
+
+  -- MUL Rd,Rm,Rs
+  pub multiply_then : {rd rn rs rm : ℕ} {rest : Piece} {Q : Post} {s : Core} (x : ℕ) → s.regs rm * s.regs rs % 2 ^ 32 ≡ x → Owes Asks Does rest Q (put rd x s) → Owes Asks Does (Seq (Do (Mul 14 false false rd rn rs rm)) rest) Q s
+  multiply_then {rd} {rn} {rs} {rm} {rest} {Q} {s} x is owes = do_then (subst (λ y. Owes Asks Does rest Q (put rd y s)) (sym is) owes)
+
+  -- the board's calls: a byte that is written, a new line, and a byte of the input or its end
+  pub write_then : {rest : Piece} {Q : Post} {s : Core} (byte : ℕ) → s.regs 0 % 2 ^ 8 ≡ byte → Owes Asks Does rest Q (record s { out = s.out ++ byte ∷ [] }) → Owes Asks Does (Seq (Do (Swi 14 0)) rest) Q s
+  write_then {rest} {Q} {s} byte is owes = do_then (subst (λ b. Owes Asks Does rest Q (record s { out = s.out ++ b ∷ [] })) (sym is) owes)
+
+  pub new_line_then : {rest : Piece} {Q : Post} {s : Core} → Owes Asks Does rest Q (record s { out = s.out ++ 10 ∷ 13 ∷ [] }) → Owes Asks Does (Seq (Do (Swi 14 3)) rest) Q s
+  new_line_then owes = do_then owes
+
+  pub read_then : {rest : Piece} {Q : Post} {s : Core} → (s.input ≡ [] → Owes Asks Does rest Q (put 0 (2 ^ 32 - 1) s))
+      → ((byte : ℕ) (more : List ℕ) → s.input ≡ byte ∷ more → Owes Asks Does rest Q (record s { regs = updated s.regs 0 byte; input = more })) → Owes Asks Does (Seq (Do (Swi 14 4)) rest) Q s
+  read_then {rest} {Q} {s} at_end reads = do_then (each s.input refl)
+    where
+      each : (input : List ℕ) → s.input ≡ input → Owes Asks Does rest Q (takes_input input s)
+      each [] is = at_end is
+      each (byte ∷ more) is = reads byte more is
 
   -- ---- memory
 
