@@ -1,7 +1,7 @@
 -- Laws of rows of steps: one after another, what they are as a run, and rising addresses.
-use Rattle.std.proofs.Common.{◌≡◌, ℕ, ◌+◌, ◌*◌, ◌≤◌, List, [], ◌∷◌, ◌++◌, length, refl, sym, ap, subst, ◌∙◌, arith, append_assoc, append-nil}
+use Rattle.std.proofs.Common.{◌≡◌, ◌≢◌, ℕ, ◌+◌, ◌*◌, ◌<◌, ◌≤◌, List, [], ◌∷◌, ◌++◌, length, refl, sym, ap, subst, ◌∙◌, arith, append_assoc, append-nil}
 use Rattle.bv_run.specs.Runs.{Going, after_turn, with_front, run}
-use Rattle.bv_run.proofs.RunLaws.{run-zero, run-suc, run-with_front}
+use Rattle.bv_run.proofs.RunLaws.{Leads, run-zero, run-suc, run-with_front}
 use Rattle.arm2_machine.specs.Machine.{Machine}
 use Rattle.arm2_machine.specs.Step.{board_step}
 use Rattle.arm_core.specs.Core.{Core, IsAt}
@@ -50,3 +50,26 @@ rising_append (p ∷ ps) qs low mid high first second = (first.0, rising_append 
 pub rising_count : (ps : List ℕ) (low high : ℕ) → Rising ps low high → low + 4 * length ps ≤ high
 rising_count [] low high rise = omega (arith, rise)
 rising_count (p ∷ ps) low high rise = omega (arith, rise.0, rising_count ps (p + 4) high rise.1)
+
+-- an address is none of some others
+abbrev pub IsApart : ℕ → List ℕ → Type 0
+IsApart p [] = Unit {0}
+IsApart p (q ∷ qs) = (p ≢ q) × IsApart p qs
+
+-- no two addresses are the same
+abbrev pub AreDistinct : List ℕ → Type 0
+AreDistinct [] = Unit {0}
+AreDistinct (p ∷ ps) = IsApart p ps × AreDistinct ps
+
+below_all : (p : ℕ) (qs : List ℕ) (low high : ℕ) → p < low → Rising qs low high → IsApart p qs
+below_all p [] low high below rise = tt
+below_all p (q ∷ qs) low high below rise = (λ e. omega (arith, e, below, rise.0), below_all p qs (q + 4) high (omega (arith, below, rise.0)) rise.1)
+
+-- rising addresses are distinct
+pub rising_distinct : (ps : List ℕ) (low high : ℕ) → Rising ps low high → AreDistinct ps
+rising_distinct [] low high rise = tt
+rising_distinct (p ∷ ps) low high rise = (below_all p ps (p + 4) high (omega arith) rise.1, rising_distinct ps (p + 4) high rise.1)
+
+-- a row of one step or more leads on
+pub row_leads : (ps : List ℕ) (m last : Machine) (bytes : List ℕ) → Row ps m bytes last → 0 < length ps → Leads board_step m last bytes
+row_leads ps m last bytes row some = record { steps = length ps; some = some; goes = row_run ps m last bytes row }
