@@ -126,11 +126,11 @@ found_text : (m l' l : ℕ) (a r : List Terminal) (y : StrExpr) (h : TextRead m 
 found_text m l' l a r y h d o b =
     let s = h.still d o b in h.is ∙ (ap (λ z. Some (found.Text z, h.rest)) s.0 ∙ ap (λ z. Some (found.Text y, z)) s.1)
 
-number_is : (m l' l : ℕ) (a r : List Terminal) (x : NumExpr) → NumRead m l' l a r x → pointed r ≡ false → op_level r ≤ l → op_level r < l'
+pub number_is : (m l' l : ℕ) (a r : List Terminal) (x : NumExpr) → NumRead m l' l a r x → pointed r ≡ false → op_level r ≤ l → op_level r < l'
     → p.number (p.expression m) l' (a ++ r) ≡ Some (x, r)
 number_is m l' l a r x h d o b = number_of (p.expression m) l' h.left (a ++ r) x r (found_num m l' l a r x h d o b)
 
-text_is : (m l' l : ℕ) (a r : List Terminal) (y : StrExpr) → TextRead m l' l a r y → pointed r ≡ false → op_level r ≤ l → op_level r < l'
+pub text_is : (m l' l : ℕ) (a r : List Terminal) (y : StrExpr) → TextRead m l' l a r y → pointed r ≡ false → op_level r ≤ l → op_level r < l'
     → p.text (p.expression m) l' (a ++ r) ≡ Some (y, r)
 text_is m l' l a r y h d o b = text_of (p.expression m) l' (a ++ r) y r (found_text m l' l a r y h d o b)
 

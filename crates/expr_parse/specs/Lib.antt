@@ -1,4 +1,5 @@
 pub mod Parse
+pub mod Operands
 pub mod Longest
 pub mod Prefixes
 pub mod Nests

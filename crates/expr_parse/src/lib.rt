@@ -18,6 +18,11 @@ mod words;
 
 pub use classify::terminals;
 pub use found::Found;
+pub use grammar::Front;
 pub use laws::one_tree;
-pub use parser::{longest_num, longest_text};
+pub use marks::{close, comma};
+pub use parser::{
+    longest_any, longest_num, longest_offset, longest_operand, longest_text, whole_arguments,
+    whole_subscripts,
+};
 pub use top::{ParseError, front_num, front_text, parse_num, parse_str};

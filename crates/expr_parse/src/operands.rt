@@ -25,7 +25,7 @@ const FACTOR: u8 = 6;
 impl<F: for<'b> Fn(Global, usize, u8, &'b [Terminal]) -> Front<'b, Found>> Grammar<F> {
     /// An indirection after a variable.
     #[tactic(auto, unfolding(crate::specs::Parse::offset, crate::specs::Parse::on_front))]
-    fn offset<'a>(&self, least: u8, list: &'a [Terminal]) -> Front<'a, (Width, NumExpr)>
+    pub fn offset<'a>(&self, least: u8, list: &'a [Terminal]) -> Front<'a, (Width, NumExpr)>
         requires { Nests self.now.depth (F.pre self.now.inner) (F.post self.now.inner) }
         ensures { Reads (spec.offset (spec.expression self.now.depth) least list.now) result }
     {
