@@ -1,0 +1,10 @@
+pub mod Expressions
+pub mod CompleteOperands
+pub mod CompleteParts
+pub mod CompleteStatements
+pub mod CompleteLines
+pub mod CompleteRuns
+pub mod SoundOperands
+pub mod SoundStatements
+pub mod SoundLines
+pub mod Loop

@@ -1,0 +1,6 @@
+use Rattle.std.proofs.Common.{◌≡◌, ◌-◌}
+use Rattle.bas_parse.specs.Statements.{print_at, print_from}
+use Rattle.bas_parse.proofs.parts.print.Given as goal
+
+abbrev pub invariant-loop-turn : goal.invariant-loop-turn
+invariant-loop-turn l = print_at l.list ≡ print_from (l._turn-end - l._turn) l.after l.parts l.rest

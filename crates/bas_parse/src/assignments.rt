@@ -1,0 +1,154 @@
+//! Assignments, LET and SWAP.
+
+ghost use Rattle.std.specs.Prelude.{◌≡◌};
+ghost use Rattle.expr_parse.specs.Nests.{Reads};
+ghost use Rattle.bas_parse.specs.Statements as spec;
+
+use crate::marks::equals;
+use crate::targets::target;
+use bas_ast::{Assignment, BinaryOp, Comparison, Target, Terminal};
+use expr_parse::{Front, comma, longest_num, longest_text};
+use std::alloc::Global;
+
+/// A value for a target after `=`.
+#[tactic(auto, unfolding(expr_parse::specs::Parse::on_front))]
+fn stored(alloc: Global, target: Target, list: &[Terminal]) -> Front<'_, Assignment>
+    ensures { Reads (spec.stored target list.now) result }
+{
+    match target {
+        Target::Number(number) => {
+            let Some((x, rest)) = longest_num(alloc, list)? else {
+                return Ok(None);
+            };
+            Ok(Some((Assignment::Number(number, x), rest)))
+        }
+        Target::Text(text) => {
+            let Some((y, rest)) = longest_text(alloc, list)? else {
+                return Ok(None);
+            };
+            Ok(Some((Assignment::Text(text, y), rest)))
+        }
+    }
+}
+
+/// A value for a target after `+=`.
+#[tactic(auto, unfolding(expr_parse::specs::Parse::on_front))]
+fn added(alloc: Global, target: Target, list: &[Terminal]) -> Front<'_, Assignment>
+    ensures { Reads (spec.added target list.now) result }
+{
+    match target {
+        Target::Number(number) => {
+            let Some((x, rest)) = longest_num(alloc, list)? else {
+                return Ok(None);
+            };
+            Ok(Some((Assignment::Add(number, x), rest)))
+        }
+        Target::Text(text) => {
+            let Some((y, rest)) = longest_text(alloc, list)? else {
+                return Ok(None);
+            };
+            Ok(Some((Assignment::Append(text, y), rest)))
+        }
+    }
+}
+
+/// A value for a target after `-=`.
+#[tactic(auto, unfolding(expr_parse::specs::Parse::on_front))]
+fn subtracted(alloc: Global, target: Target, list: &[Terminal]) -> Front<'_, Assignment>
+    ensures { Reads (spec.subtracted target list.now) result }
+{
+    match target {
+        Target::Number(number) => {
+            let Some((x, rest)) = longest_num(alloc, list)? else {
+                return Ok(None);
+            };
+            Ok(Some((Assignment::Subtract(number, x), rest)))
+        }
+        Target::Text(_) => Ok(None),
+    }
+}
+
+/// A sign and a value for a target.
+#[tactic(auto, unfolding(crate::specs::Statements::signed))]
+fn signed(alloc: Global, target: Target, list: &[Terminal]) -> Front<'_, Assignment>
+    ensures { Reads (spec.signed target list.now) result }
+{
+    match list {
+        [
+            Terminal::Operator(BinaryOp::Compare(Comparison::Equal)),
+            rest @ ..,
+        ] => { stored(alloc, target, rest) }
+        [Terminal::PlusEquals, rest @ ..] => added(alloc, target, rest),
+        [Terminal::MinusEquals, rest @ ..] => subtracted(alloc, target, rest),
+        _ => Ok(None),
+    }
+}
+
+/// An assignment by any of its signs.
+#[tactic(auto, unfolding(crate::specs::Statements::assignment_at, expr_parse::specs::Parse::on_front))]
+pub fn assignment(alloc: Global, list: &[Terminal]) -> Front<'_, Assignment>
+    ensures { Reads (spec.assignment_at list.now) result }
+{
+    let Some((target, rest)) = target(alloc, list)? else {
+        return Ok(None);
+    };
+    signed(alloc, target, rest)
+}
+
+/// What follows LET: an assignment by `=`.
+#[tactic(auto, unfolding(crate::specs::Statements::let_at, expr_parse::specs::Parse::on_front, expr_parse::specs::Parse::on_some))]
+pub fn let_assignment(alloc: Global, list: &[Terminal]) -> Front<'_, Assignment>
+    ensures { Reads (spec.let_at list.now) result }
+{
+    let Some((target, rest)) = target(alloc, list)? else {
+        return Ok(None);
+    };
+    let Some(after) = equals(rest) else {
+        return Ok(None);
+    };
+    stored(alloc, target, after)
+}
+
+/// Two targets of one kind.
+fn swapped(left: Target, right: Target) -> Option<Assignment>
+    ensures { result ≡ spec.swap_of left right }
+{
+    match left {
+        Target::Number(left) => match right {
+            Target::Number(right) => Some(Assignment::SwapNumbers(left, right)),
+            Target::Text(_) => None,
+        },
+        Target::Text(left) => match right {
+            Target::Number(_) => None,
+            Target::Text(right) => Some(Assignment::SwapTexts(left, right)),
+        },
+    }
+}
+
+/// The second target of SWAP.
+#[tactic(auto, unfolding(expr_parse::specs::Parse::on_front, expr_parse::specs::Parse::on_some))]
+fn swap_with(alloc: Global, left: Target, list: &[Terminal]) -> Front<'_, Assignment>
+    ensures { Reads (spec.swap_with left list.now) result }
+{
+    let Some((right, rest)) = target(alloc, list)? else {
+        return Ok(None);
+    };
+    match swapped(left, right) {
+        Some(swap) => Ok(Some((swap, rest))),
+        None => Ok(None),
+    }
+}
+
+/// What follows SWAP.
+#[tactic(auto, unfolding(crate::specs::Statements::swap_at, expr_parse::specs::Parse::on_front, expr_parse::specs::Parse::on_some))]
+pub fn swap(alloc: Global, list: &[Terminal]) -> Front<'_, Assignment>
+    ensures { Reads (spec.swap_at list.now) result }
+{
+    let Some((left, rest)) = target(alloc, list)? else {
+        return Ok(None);
+    };
+    let Some(after) = comma(rest) else {
+        return Ok(None);
+    };
+    swap_with(alloc, left, after)
+}
