@@ -1,0 +1,10 @@
+pub mod TextSteps
+pub mod NameKeys
+pub mod NumberSteps
+pub mod Cuts
+pub mod Profiles
+pub mod EndLaws
+pub mod LineSteps
+pub mod Verdicts
+pub mod Decided
+pub mod FileVerdicts

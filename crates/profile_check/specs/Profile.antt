@@ -1,0 +1,101 @@
+-- Which forms of the language have a meaning yet. A line with another form is outside. Later work only widens this.
+use Rattle.std.specs.Prelude.{Bool, true, false, ◌&&◌}
+use Rattle.std.specs.List.{list_all}
+use Rattle.bas_ast.specs.declared.expressions.NumExpr.{NumExpr, more_of-NumExpr as held}
+use Rattle.bas_ast.specs.declared.expressions.NumExpr.TheVariants as num
+use Rattle.bas_ast.specs.declared.expressions.StrExpr.{StrExpr}
+use Rattle.bas_ast.specs.declared.expressions.StrExpr.TheVariants as str
+use Rattle.bas_ast.specs.declared.expressions.Variable.{Variable}
+use Rattle.bas_ast.specs.declared.expressions.Variable.TheVariants as var
+use Rattle.bas_ast.specs.declared.lines.Item.{Item}
+use Rattle.bas_ast.specs.declared.lines.Item.TheVariants as item
+use Rattle.bas_ast.specs.declared.statements.Assignment.{Assignment}
+use Rattle.bas_ast.specs.declared.statements.Assignment.TheVariants as assigns
+use Rattle.bas_ast.specs.declared.statements.Flow.{Flow}
+use Rattle.bas_ast.specs.declared.statements.Flow.TheVariants as flow
+use Rattle.bas_ast.specs.declared.statements.Output.{Output}
+use Rattle.bas_ast.specs.declared.statements.Output.TheVariants as writes
+use Rattle.bas_ast.specs.declared.statements.PrintPart.{PrintPart}
+use Rattle.bas_ast.specs.declared.statements.PrintPart.TheVariants as prints
+use Rattle.bas_ast.specs.declared.statements.Stmt.{Stmt}
+use Rattle.bas_ast.specs.declared.statements.Stmt.TheVariants as stmt
+use Rattle.bas_ast.specs.declared.statements.VduPart.{VduPart}
+use Rattle.bas_ast.specs.declared.statements.VduPart.TheVariants as sends
+use Rattle.bas_ast.specs.declared.targets.NumTarget.{NumTarget}
+use Rattle.bas_ast.specs.declared.targets.NumTarget.TheVariants as target
+
+-- a variable that is no array's element
+abbrev pub plain_variable : Variable → Bool
+plain_variable (var.Simple name) = true
+plain_variable _ = false
+
+-- numbers, TRUE, FALSE, COUNT, variables, brackets, and the operators between and before numbers
+unfoldable pub num_in_profile : NumExpr → Bool
+num_in_profile (num.Number value) = true
+num_in_profile num.True = true
+num_in_profile num.False = true
+num_in_profile num.Count = true
+num_in_profile (num.Variable v) = plain_variable v
+num_in_profile (num.Bracket' _ (held x _)) = num_in_profile x
+num_in_profile (num.Unary' op _ (held x _)) = num_in_profile x
+num_in_profile (num.Binary' op _ (held x _) _ (held y _)) = num_in_profile x && num_in_profile y
+num_in_profile _ = false
+
+-- one string literal
+abbrev pub text_in_profile : StrExpr → Bool
+text_in_profile (str.Literal number) = true
+text_in_profile _ = false
+
+abbrev pub target_in_profile : NumTarget → Bool
+target_in_profile (target.Variable v) = plain_variable v
+target_in_profile _ = false
+
+-- `=`, `+=` and `-=` of a number
+abbrev pub assignment_in_profile : Assignment → Bool
+assignment_in_profile (assigns.Number t x) = target_in_profile t && num_in_profile x
+assignment_in_profile (assigns.Add t x) = target_in_profile t && num_in_profile x
+assignment_in_profile (assigns.Subtract t x) = target_in_profile t && num_in_profile x
+assignment_in_profile _ = false
+
+-- GOTO, END, STOP and QUIT
+abbrev pub flow_in_profile : Flow → Bool
+flow_in_profile (flow.Goto line) = true
+flow_in_profile flow.End = true
+flow_in_profile flow.Stop = true
+flow_in_profile flow.Quit = true
+flow_in_profile _ = false
+
+abbrev pub print_part_in_profile : PrintPart → Bool
+print_part_in_profile prints.Comma = true
+print_part_in_profile prints.Semicolon = true
+print_part_in_profile prints.NewLine = true
+print_part_in_profile (prints.Number format x) = num_in_profile x
+print_part_in_profile (prints.Text x) = text_in_profile x
+print_part_in_profile (prints.Spaces x) = num_in_profile x
+print_part_in_profile (prints.Tab x) = num_in_profile x
+
+abbrev pub vdu_part_in_profile : VduPart → Bool
+vdu_part_in_profile (sends.Byte x) = num_in_profile x
+vdu_part_in_profile (sends.Word x) = num_in_profile x
+
+-- PRINT, VDU, MODE, COLOUR and CLS
+abbrev pub output_in_profile : Output → Bool
+output_in_profile (writes.Print parts) = list_all print_part_in_profile parts
+output_in_profile (writes.Vdu parts) = list_all vdu_part_in_profile parts
+output_in_profile (writes.Mode x) = num_in_profile x
+output_in_profile (writes.Colour x) = num_in_profile x
+output_in_profile writes.Cls = true
+
+abbrev pub stmt_in_profile : Stmt → Bool
+stmt_in_profile (stmt.Assign a) = assignment_in_profile a
+stmt_in_profile (stmt.Flow f) = flow_in_profile f
+stmt_in_profile (stmt.Output o) = output_in_profile o
+stmt_in_profile _ = false
+
+-- plain statements, IF that is no block, ELSE within a line, and REM
+abbrev pub in_profile : Item → Bool
+in_profile (item.Stmt s) = stmt_in_profile s
+in_profile (item.If x) = num_in_profile x
+in_profile item.Else = true
+in_profile item.Remark = true
+in_profile _ = false
