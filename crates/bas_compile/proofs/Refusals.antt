@@ -7,10 +7,10 @@ use Rattle.bv_base.proofs.Lists.{same_head, same_tail}
 use Rattle.token_file.proofs.OneReading.{one_reading}
 use Rattle.bas_compile.specs.declared.item.Item.{Item}
 use Rattle.bas_compile.specs.declared.item.ProgramLine.{ProgramLine}
-use Rattle.bas_compile.specs.declared.refusal.Refusal.{Refusal}
-use Rattle.bas_compile.specs.declared.refusal.Refusal.TheVariants as refusals
-use Rattle.bas_compile.specs.declared.refusal.Which.{Which}
-use Rattle.bas_compile.specs.declared.refusal.Which.TheVariants as limits
+use Rattle.profile_check.specs.declared.refusal.Refusal.{Refusal}
+use Rattle.profile_check.specs.declared.refusal.Refusal.TheVariants as refusals
+use Rattle.profile_check.specs.declared.refusal.Which.{Which}
+use Rattle.profile_check.specs.declared.refusal.Which.TheVariants as limits
 use Rattle.bv_base.specs.Limits.{file_bytes}
 use Rattle.bas_compile.specs.Correct.{CompilesTo}
 use Rattle.bas_compile.specs.Grammar.{Parses, ParsesAll, Accepted}

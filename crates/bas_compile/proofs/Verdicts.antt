@@ -10,9 +10,9 @@ use Rattle.bv_token.specs.declared.tokens.TheConstants.{END, VDU}
 use Rattle.bas_compile.specs.declared.item.Item.{Item}
 use Rattle.bas_compile.specs.declared.item.Item.TheVariants.{Vdu, End}
 use Rattle.bas_compile.specs.declared.item.ProgramLine.{ProgramLine}
-use Rattle.bas_compile.specs.declared.refusal.Refusal.{Refusal}
-use Rattle.bas_compile.specs.declared.refusal.Refusal.TheVariants as refusals
-use Rattle.bas_compile.specs.declared.refusal.Which.TheVariants as limits
+use Rattle.profile_check.specs.declared.refusal.Refusal.{Refusal}
+use Rattle.profile_check.specs.declared.refusal.Refusal.TheVariants as refusals
+use Rattle.profile_check.specs.declared.refusal.Which.TheVariants as limits
 use Rattle.bv_base.specs.Limits.{file_bytes}
 use Rattle.bas_compile.specs.Grammar.{IsDigit, value_of, Parses, ParsesAll, Accepted}
 use Rattle.bas_compile.specs.Parsing.{without_spaces, NoDigitFirst, IsLastNumber, IsFront}

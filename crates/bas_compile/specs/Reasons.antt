@@ -3,9 +3,9 @@ use Rattle.std.specs.Prelude.{◌≡◌, ℕ, ◌+◌, ◌<◌, ◌≤◌, List,
 use Rattle.token_file.specs.declared.line.Line.{Line}
 use Rattle.token_file.specs.Lines.{Lines, Malformed}
 use Rattle.bv_base.specs.Limits.{file_bytes}
-use Rattle.bas_compile.specs.declared.refusal.Refusal.{Refusal}
-use Rattle.bas_compile.specs.declared.refusal.Refusal.TheVariants as refusals
-use Rattle.bas_compile.specs.declared.refusal.Which.TheVariants as limits
+use Rattle.profile_check.specs.declared.refusal.Refusal.{Refusal}
+use Rattle.profile_check.specs.declared.refusal.Refusal.TheVariants as refusals
+use Rattle.profile_check.specs.declared.refusal.Which.TheVariants as limits
 use Rattle.bas_compile.specs.Refused.{FirstOutside}
 
 -- The file is short enough and has lines, of which this is the number of the first that is no item.

@@ -1,14 +1,12 @@
 -- Why a file is refused: the first cause in order. This project's own.
 use Rattle.std.specs.Prelude.{◌≡◌, ◌⊎◌, ℕ, ◌+◌, ◌<◌, List, [], ◌∷◌, ◌++◌, length}
 use Rattle.token_file.specs.declared.line.Line.{Line}
-use Rattle.token_file.specs.declared.read.FileError.{FileError}
-use Rattle.token_file.specs.declared.read.FileError.TheVariants as errors
 use Rattle.token_file.specs.Lines.{Lines, Malformed}
 use Rattle.bas_compile.specs.declared.item.Item.{Item}
 use Rattle.bas_compile.specs.declared.item.ProgramLine.{ProgramLine}
-use Rattle.bas_compile.specs.declared.refusal.Refusal.{Refusal}
-use Rattle.bas_compile.specs.declared.refusal.Refusal.TheVariants as refusals
-use Rattle.bas_compile.specs.declared.refusal.Which.TheVariants as limits
+use Rattle.profile_check.specs.declared.refusal.Refusal.{Refusal}
+use Rattle.profile_check.specs.declared.refusal.Refusal.TheVariants as refusals
+use Rattle.profile_check.specs.declared.refusal.Which.TheVariants as limits
 use Rattle.bv_base.specs.Limits.{file_bytes}
 use Rattle.bas_compile.specs.Grammar.{Parses, ParsesAll}
 
@@ -59,8 +57,3 @@ ExplainsLines lines (refusals.Malformed at) = ⊥
 ExplainsLines lines (refusals.Outside line) = FirstOutside lines line
 ExplainsLines lines (refusals.Limit which count) = ⊥
 ExplainsLines lines refusals.NoMemory = Unit {0}
-
--- an error of the file's reader as a refusal
-abbrev pub refusal_of : FileError → Refusal
-refusal_of (errors.Malformed at) = refusals.Malformed at
-refusal_of errors.NoMemory = refusals.NoMemory

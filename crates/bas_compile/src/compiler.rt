@@ -5,29 +5,15 @@ ghost use Rattle.bas_compile.specs.Grammar.{Accepted};
 ghost use Rattle.bas_compile.specs.Reasons.{GivesReason};
 ghost use Rattle.bas_compile.specs.Refused.{Refused, Explained};
 ghost use Rattle.bas_compile.specs.declared.item.ProgramLine.{ProgramLine as Line};
-ghost use Rattle.bas_compile.specs.declared.refusal.Refusal.{Refusal as Reason};
+ghost use Rattle.profile_check.specs.declared.refusal.Refusal.{Refusal as Reason};
 
 use crate::code::generate;
 use crate::parse::parse_lines;
-use crate::refusal::{LONG_FILE, Refusal};
 use arm2_machine::write_image;
 use bv_base::FILE_BYTES;
+use profile_check::{LONG_FILE, Refusal};
 use std::alloc::Global;
-use token_file::{FileError, read_file};
-
-impl From<FileError> for Refusal {
-    ghost use Rattle.std.specs.Prelude.{◌≡◌};
-    ghost use Rattle.bas_compile.specs.Refused.{refusal_of};
-
-    ghost from_gives = { λ error refusal. refusal ≡ refusal_of error };
-
-    fn from(error: FileError) -> Refusal {
-        match error {
-            FileError::Malformed { at } => Refusal::Malformed { at },
-            FileError::NoMemory => Refusal::NoMemory,
-        }
-    }
-}
+use token_file::read_file;
 
 fn build_image(alloc: Global, bytes: &[u8]) -> Result<Vec<u8>, Refusal>
     ensures headline { IfOk result (λ contents. CompilesTo bytes.now contents.items) }

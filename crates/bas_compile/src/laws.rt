@@ -9,7 +9,7 @@ ghost use Rattle.bas_compile.specs.Agrees.{Agrees, AreBytes};
 ghost use Rattle.bas_compile.specs.Correct.{CompilesTo};
 ghost use Rattle.bas_compile.specs.Meaning.{source_run};
 ghost use Rattle.bas_compile.specs.declared.item.ProgramLine.{ProgramLine as Line};
-ghost use Rattle.bas_compile.specs.declared.refusal.Refusal.{Refusal as Reason};
+ghost use Rattle.profile_check.specs.declared.refusal.Refusal.{Refusal as Reason};
 ghost use Rattle.bas_compile.specs.Grammar.{Accepted};
 ghost use Rattle.bas_compile.specs.Refused.{Refused};
 

@@ -7,9 +7,7 @@ mod compiler;
 mod item;
 mod laws;
 mod parse;
-mod refusal;
 
 pub use compiler::compile;
 pub use item::{Item, ProgramLine};
 pub use laws::{compiled_images_agree, one_verdict};
-pub use refusal::{LONG_FILE, Refusal, Which};

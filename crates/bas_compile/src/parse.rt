@@ -5,8 +5,8 @@ ghost use Rattle.bas_compile.specs.Parsing.{without_spaces, NoDigitFirst, NoSpac
 ghost use Rattle.bas_compile.specs.Refused.{ExplainsLines};
 
 use crate::item::{Item, ProgramLine};
-use crate::refusal::Refusal;
 use bv_token::{END, VDU};
+use profile_check::Refusal;
 use std::alloc::Global;
 use token_file::Line;
 

@@ -1,7 +1,8 @@
 //! Files that compile, and files that the first compiler refuses.
 
 use arm2_machine::{Board, read_image};
-use bas_compile::{Refusal, compile};
+use bas_compile::compile;
+use profile_check::Refusal;
 use bv_io::MemSink;
 use bv_run::{Report, RunEnd};
 use std::alloc::Global;

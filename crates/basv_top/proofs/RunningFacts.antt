@@ -5,7 +5,7 @@ use Rattle.bv_io.specs.Log.{Event, Took, NotTaken, Put}
 use Rattle.bv_io.specs.declared.shelf.TakeError.TheVariants as take_errors
 use Rattle.bv_io.specs.Shelf.{Rose, Tells}
 use Rattle.bv_run.specs.Outcome.{Outcome}
-use Rattle.bas_compile.specs.declared.refusal.Refusal.{Refusal}
+use Rattle.profile_check.specs.declared.refusal.Refusal.{Refusal}
 use Rattle.basv_words.specs.Command.{Options}
 use Rattle.basv_top.specs.declared.status.Status.{Status}
 use Rattle.basv_top.specs.declared.status.Status.TheVariants as statuses

@@ -3,8 +3,8 @@ use Rattle.std.proofs.Common.{◌≡◌, subst}
 use Rattle.bv_run.specs.declared.report.Report.TheVariants as reports
 use Rattle.bv_run.specs.declared.report.RunEnd.{RunEnd}
 use Rattle.bv_run.specs.declared.report.RunEnd.TheVariants as ends
-use Rattle.bas_compile.specs.declared.refusal.Refusal.{Refusal}
-use Rattle.bas_compile.specs.declared.refusal.Refusal.TheVariants as refusals
+use Rattle.profile_check.specs.declared.refusal.Refusal.{Refusal}
+use Rattle.profile_check.specs.declared.refusal.Refusal.TheVariants as refusals
 use Rattle.basv_top.specs.declared.status.Status.{Status}
 use Rattle.basv_top.specs.declared.status.Status.TheVariants as statuses
 use Rattle.basv_top.specs.Ending.{refusal_status, end_status}

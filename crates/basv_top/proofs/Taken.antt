@@ -1,7 +1,7 @@
 -- What a take that was made, or could not be made, says of the content of its name.
 use Rattle.std.proofs.Common.{◌≡◌, ◌⊎◌, inl, inr, ℕ, ◌<◌, List, [], ◌∷◌, ◌++◌, length, get_or, Option, Some, None, unwrap_or, Err, Vec, Global, IsErrOf, refl, sym, ap, subst, ◌∙◌, append_assoc, arith}
 use Rattle.std.proofs.lemmas.List.{append_cancel_right, length-append}
-use Rattle.bas_compile.specs.declared.refusal.Refusal.{Refusal}
+use Rattle.profile_check.specs.declared.refusal.Refusal.{Refusal}
 use Rattle.bv_io.specs.declared.shelf.TakeError.{TakeError}
 use Rattle.bv_io.specs.declared.shelf.TakeError.TheVariants as take_errors
 use Rattle.bv_io.specs.Log.{Event, Took, NotTaken}

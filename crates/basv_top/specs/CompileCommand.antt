@@ -5,8 +5,8 @@ use Rattle.bv_io.specs.declared.shelf.PutError.TheVariants as put_errors
 use Rattle.bv_io.specs.Log.{Took, Put, NotPut}
 use Rattle.bv_io.specs.Shelf.{Rose, Tells}
 use Rattle.bas_compile.specs.declared.item.ProgramLine.{ProgramLine}
-use Rattle.bas_compile.specs.declared.refusal.Refusal.{Refusal}
-use Rattle.bas_compile.specs.declared.refusal.Refusal.TheVariants as refusals
+use Rattle.profile_check.specs.declared.refusal.Refusal.{Refusal}
+use Rattle.profile_check.specs.declared.refusal.Refusal.TheVariants as refusals
 use Rattle.bas_compile.specs.Correct.{CompilesTo}
 use Rattle.bas_compile.specs.Grammar.{Accepted}
 use Rattle.bas_compile.specs.Refused as refused

@@ -4,7 +4,7 @@ use Rattle.bv_base.specs.Limits.{text_file_bytes}
 use Rattle.bv_io.specs.declared.shelf.PutError.TheVariants as put_errors
 use Rattle.bv_io.specs.Log.{Took, Put, NotPut}
 use Rattle.bv_io.specs.Shelf.{Rose, Tells}
-use Rattle.bas_compile.specs.declared.refusal.Refusal.TheVariants as refusals
+use Rattle.profile_check.specs.declared.refusal.Refusal.TheVariants as refusals
 use Rattle.basv_crunch.specs.Crunched.{IsFileOf, IsBadText, IsTooLong}
 use Rattle.basv_crunch.specs.NormalForm.{ReadsBack}
 use Rattle.basv_top.specs.declared.status.Status.{Status}

@@ -19,10 +19,10 @@ use Rattle.bv_io.specs.declared.shelf.PutError.{PutError}
 use Rattle.bv_io.specs.declared.shelf.PutError.TheVariants as put_errors
 use Rattle.basv_top.specs.declared.ending.Ending.{Ending as Told}
 use Rattle.basv_top.specs.declared.ending.Ending.TheVariants as tells
-use Rattle.bas_compile.specs.declared.refusal.Refusal.{Refusal}
-use Rattle.bas_compile.specs.declared.refusal.Refusal.TheVariants as refusals
-use Rattle.bas_compile.specs.declared.refusal.Which.{Which}
-use Rattle.bas_compile.specs.declared.refusal.Which.TheVariants as limits
+use Rattle.profile_check.specs.declared.refusal.Refusal.{Refusal}
+use Rattle.profile_check.specs.declared.refusal.Refusal.TheVariants as refusals
+use Rattle.profile_check.specs.declared.refusal.Which.{Which}
+use Rattle.profile_check.specs.declared.refusal.Which.TheVariants as limits
 use Rattle.basv_top.specs.declared.message.Message.{Message}
 use Rattle.basv_top.specs.declared.status.Status.{Status}
 use Rattle.basv_top.specs.declared.status.Status.TheVariants as statuses

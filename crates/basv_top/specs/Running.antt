@@ -10,8 +10,8 @@ use Rattle.bv_run.specs.declared.report.RunEnd.{RunEnd}
 use Rattle.bv_run.specs.declared.report.RunEnd.TheVariants as ends
 use Rattle.bv_run.specs.Outcome.{Outcome, Over, Going, Broken, output_of}
 use Rattle.arm2_machine.specs.Writes.{byte_writes, FailsAtByte}
-use Rattle.bas_compile.specs.declared.refusal.Refusal.{Refusal}
-use Rattle.bas_compile.specs.declared.refusal.Refusal.TheVariants as refusals
+use Rattle.profile_check.specs.declared.refusal.Refusal.{Refusal}
+use Rattle.profile_check.specs.declared.refusal.Refusal.TheVariants as refusals
 use Rattle.basv_top.specs.Ending.{Ending, Refused, WriteFault, Ran, long_input}
 use Rattle.basv_top.specs.Seen.{SeenShelf, SeenSink, Silent, Same}
 use Rattle.basv_top.specs.Taking.{TakeFails, Takes, Calm}

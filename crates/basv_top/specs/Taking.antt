@@ -3,8 +3,8 @@ use Rattle.std.specs.Prelude.{◌≡◌, ◌⊎◌, ℕ, ◌≤◌, List, ◌∷
 use Rattle.bv_io.specs.declared.shelf.TakeError.TheVariants as take_errors
 use Rattle.bv_io.specs.Log.{Event, Took, NotTaken}
 use Rattle.bv_io.specs.Shelf.{Rose, Tells, TellsMore}
-use Rattle.bas_compile.specs.declared.refusal.Refusal.{Refusal}
-use Rattle.bas_compile.specs.declared.refusal.Refusal.TheVariants as refusals
+use Rattle.profile_check.specs.declared.refusal.Refusal.{Refusal}
+use Rattle.profile_check.specs.declared.refusal.Refusal.TheVariants as refusals
 use Rattle.basv_top.specs.Ending.{Ending, Done, Usage, Refused, ReadFault, WriteFault, NotImage, BadText, Ran}
 use Rattle.basv_top.specs.Seen.{SeenShelf, Same}
 

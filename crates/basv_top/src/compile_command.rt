@@ -8,7 +8,8 @@ ghost use Rattle.basv_top.specs.Seen.{Same, SeenShelf, seen_shelf};
 
 use crate::ending::Ending;
 use crate::taking::take_within;
-use bas_compile::{LONG_FILE, compile as compile_bytes};
+use bas_compile::compile as compile_bytes;
+use profile_check::LONG_FILE;
 use bv_base::FILE_BYTES;
 use bv_io::Shelf;
 use std::alloc::Global;

@@ -5,7 +5,7 @@ ghost use Rattle.basv_top.specs.Ending.{told, ended, ended_run, status_of, refus
 use crate::limits::{LONG_CRUNCHED, LONG_IMAGE};
 use crate::status::Status;
 use arm2_machine::ImageError;
-use bas_compile::Refusal;
+use profile_check::Refusal;
 use basv_crunch::CrunchError;
 use bv_base::NoMemory;
 use bv_io::{PutError, SinkFault, TakeError};
@@ -128,7 +128,7 @@ impl From<Refusal> for Ending<'_> {
 impl From<FileError> for Ending<'_> {
     ghost use Rattle.std.specs.Prelude.{◌≡◌};
     ghost use Rattle.basv_top.specs.Ending.{Refused, told};
-    ghost use Rattle.bas_compile.specs.Refused.{refusal_of};
+    ghost use Rattle.profile_check.specs.Files.{refusal_of};
 
     ghost from_gives = { λ error ending. told ending ≡ Refused (refusal_of error) };
 
@@ -154,7 +154,7 @@ impl From<ImageError> for Ending<'_> {
 
 impl From<NoMemory> for Ending<'_> {
     ghost use Rattle.std.specs.Prelude.{◌≡◌};
-    ghost use Rattle.bas_compile.specs.declared.refusal.Refusal.TheVariants as refusals;
+    ghost use Rattle.profile_check.specs.declared.refusal.Refusal.TheVariants as refusals;
     ghost use Rattle.basv_top.specs.Ending.{Refused, told};
 
     ghost from_gives = { λ _ ending. told ending ≡ Refused refusals.NoMemory };

@@ -15,7 +15,8 @@ mod status;
 mod taking;
 mod top;
 
-pub use bas_compile::{Refusal, Which, compile};
+pub use bas_compile::compile;
+pub use profile_check::{Refusal, Which};
 pub use laws::basv_in_memory;
 pub use status::Status;
 pub use top::basv;

@@ -1,6 +1,6 @@
 //! How contents of too many bytes are refused. The count stops one past the limit.
 
-use bas_compile::{Refusal, Which};
+use profile_check::{Refusal, Which};
 use bv_base::{CRUNCHED_FILE_BYTES, IMAGE_WORDS, INPUT_BYTES, TEXT_FILE_BYTES};
 
 /// How an image of too many words is refused.

@@ -7,7 +7,7 @@ ghost use Rattle.basv_top.specs.Seen.{Same, seen_shelf, seen_sink};
 
 use crate::ending::Ending;
 use crate::taking::take_within;
-use bas_compile::LONG_FILE;
+use profile_check::LONG_FILE;
 use bv_base::FILE_BYTES;
 use bv_io::{Shelf, Sink};
 use lister::list_lines;

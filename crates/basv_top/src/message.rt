@@ -8,7 +8,7 @@ ghost use Rattle.basv_top.specs.Seen.{Writes, seen_sink};
 
 use crate::ending::Ending;
 use crate::status::Status;
-use bas_compile::{Refusal, Which};
+use profile_check::{Refusal, Which};
 use bv_io::{Sink, SinkFault};
 use bv_num::digit_byte;
 use bv_run::{Report, RunEnd, Trap};

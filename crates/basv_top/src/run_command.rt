@@ -1,6 +1,6 @@
 //! The command `run IMAGE`, with its options.
 ghost use Rattle.std.specs.Prelude.{◌≡◌, ◌≢◌, ◌⊎◌, ◌≤◌, ℕ, List, Some, length, IfOk, IfErr};
-ghost use Rattle.bas_compile.specs.declared.refusal.Refusal.TheVariants as refusals;
+ghost use Rattle.profile_check.specs.declared.refusal.Refusal.TheVariants as refusals;
 ghost use Rattle.bv_base.specs.Limits.{image_bytes, image_words};
 ghost use Rattle.bv_base.specs.Words.{AreWords};
 ghost use Rattle.arm2_machine.specs.Image.{ImageOf};

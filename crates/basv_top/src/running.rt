@@ -1,7 +1,7 @@
 //! What every command that runs something does about it: it takes the input before the run, and puts the arena after it.
 ghost use Rattle.std.specs.Prelude.{◌≡◌, ◌≢◌, ◌⊎◌, ℕ, List, Some, IfOk, IfErr, OnOk};
 ghost use Rattle.std.specs.Option.{option_map};
-ghost use Rattle.bas_compile.specs.declared.refusal.Refusal.TheVariants as refusals;
+ghost use Rattle.profile_check.specs.declared.refusal.Refusal.TheVariants as refusals;
 ghost use Rattle.basv_top.specs.Ending.{Refused, WriteFault, told};
 ghost use Rattle.basv_top.specs.Running.{TakesInput, InputFails, PutsArena, ArenaUnput, ArenaFaults};
 ghost use Rattle.basv_top.specs.Seen.{seen_shelf};

@@ -5,7 +5,7 @@ ghost use Rattle.basv_top.specs.Seen.{Same, seen_shelf};
 ghost use Rattle.basv_top.specs.Taking.{Calm, TakeFails, Takes};
 
 use crate::ending::Ending;
-use bas_compile::Refusal;
+use profile_check::Refusal;
 use bv_io::Shelf;
 use std::alloc::Global;
 

@@ -39,13 +39,13 @@ pub enum Which {
 /// Why a program or an image is refused.
 #[derive(Clone, Copy, Debug, PartialEq, Eq)]
 pub enum Refusal {
-    /// The file has no lines: whole records fill the bytes before `at`, and there stands neither a record nor the end.
+    /// The file has no lines: whole records fill the bytes before `at`, and neither a record nor the end is there.
     Malformed { at: u32 },
     /// The first line that is outside the language has this number.
     Outside { line: u16 },
     /// A limit is passed. `count` is one more than its number, since counting stops there.
     Limit { which: Which, count: u32 },
-    /// There was no memory.
+    /// Memory ran out.
     NoMemory,
 }
 
