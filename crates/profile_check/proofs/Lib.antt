@@ -8,3 +8,4 @@ pub mod LineSteps
 pub mod Verdicts
 pub mod Decided
 pub mod FileVerdicts
+pub mod ShortTexts

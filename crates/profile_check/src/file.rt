@@ -1,6 +1,8 @@
 //! From the bytes of a file to the program that it holds.
 
-ghost use Rattle.std.specs.Prelude.{◌≡◌, ◌⊎◌, IfOk, IfErr, IsOkUnless, IsErrAnd};
+ghost use Rattle.std.specs.Prelude.{◌≡◌, ◌≤◌, ◌⊎◌, length, IfOk, IfErr, IsOkUnless, IsErrAnd};
+ghost use Rattle.std.specs.List.{AllByRecursion};
+ghost use Rattle.bv_base.specs.declared.limits.TheConstants.{LONGEST_TEXT};
 ghost use Rattle.bas_ast.specs.declared.program.Prog.{Prog as Program};
 ghost use Rattle.profile_check.specs.Files.{Accepted, Refused, FileExplained};
 ghost use Rattle.profile_check.specs.declared.refusal.Refusal.{Refusal as Reason};
@@ -29,6 +31,7 @@ impl From<FileError> for Refusal {
 /// The program that a file holds, or why it is refused.
 fn read_bytes(alloc: Global, bytes: &[u8]) -> Result<Prog, Refusal>
     ensures ok { IfOk result (Accepted bytes.now) }
+    ensures texts { IfOk result (λ prog. AllByRecursion (λ text. length text ≤ LONGEST_TEXT) prog.texts) }
     ensures err { IfErr result (FileExplained bytes.now) }
 {
     if bytes.len() > FILE_BYTES as usize {
@@ -42,6 +45,7 @@ fn read_bytes(alloc: Global, bytes: &[u8]) -> Result<Prog, Refusal>
 /// lines are no program.
 pub fn read_program(alloc: Global, bytes: &[u8]) -> Result<Prog, Refusal>
     ensures accepted { IfOk result (Accepted bytes.now) }
+    ensures texts { IfOk result (λ prog. AllByRecursion (λ text. length text ≤ LONGEST_TEXT) prog.texts) }
     ensures refused { IfErr result (FileExplained bytes.now) }
 
     // An accepted file is read, and a refused one refused for its reason, where there is memory.

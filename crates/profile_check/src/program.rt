@@ -25,6 +25,7 @@ pub fn check(alloc: Global, lines: &[Line]) -> Result<Prog, Refusal>
     requires short { AllByRecursion (λ line. length line.text ≤ LONGEST_TEXT) lines.now }
     requires small { file_size lines.now < 2 ^ 32 }
     ensures ok { IfOk result (IsProgram lines.now) }
+    ensures texts { IfOk result (λ prog. AllByRecursion (λ text. length text ≤ LONGEST_TEXT) prog.texts) }
     ensures err { IfErr result (Explained lines.now) }
 {
     let cutting = cut_lines(alloc, lines)?;
