@@ -1,3 +1,4 @@
+pub mod Equations
 mod Bind
 pub mod Denote
 pub mod ItemDenotes

@@ -2,6 +2,12 @@
 //! what the meaning shows is proved here.
 #![tactic(auto)]
 
+mod expressions;
 mod laws;
+mod numbers;
+mod ops;
+mod output;
+mod places;
+mod statements;
 
 pub use laws::{code_laid_out, flat_runs_agree, simple_items_light, steps_alike};
