@@ -1,4 +1,5 @@
 pub mod Equations
+pub mod TableSteps
 mod Bind
 pub mod Denote
 pub mod ItemDenotes

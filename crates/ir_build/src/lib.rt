@@ -2,12 +2,17 @@
 //! what the meaning shows is proved here.
 #![tactic(auto)]
 
+mod copies;
 mod expressions;
+mod heights;
 mod laws;
 mod numbers;
 mod ops;
 mod output;
 mod places;
+mod program;
 mod statements;
+mod tables;
 
 pub use laws::{code_laid_out, flat_runs_agree, simple_items_light, steps_alike};
+pub use program::build;
