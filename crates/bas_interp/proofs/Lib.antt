@@ -1,0 +1,4 @@
+pub mod Writing
+pub mod CallFree
+pub mod SoFar
+pub mod Ends

@@ -1,0 +1,5 @@
+pub mod Stack
+pub mod Machine
+pub mod Writes
+pub mod Runs
+pub mod Steps

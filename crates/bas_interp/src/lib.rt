@@ -1,0 +1,13 @@
+//! The interpreter: it executes the flat code of a program, with stacks of its own.
+#![tactic(auto)]
+
+mod act;
+mod columns;
+mod interp;
+mod memory;
+mod operators;
+mod run;
+mod stack;
+mod write;
+
+pub use interp::Interp;
