@@ -1,7 +1,7 @@
 -- Bytes that are handed to a sink in two parts.
-use Rattle.std.proofs.Common.{◌≡◌, ℕ, List, [], ◌∷◌, ◌++◌, Option, refl, sym, ap, subst, ◌∙◌, append-nil, arith}
+use Rattle.std.proofs.Common.{◌≡◌, ℕ, List, [], ◌∷◌, ◌++◌, Option, refl, sym, ap, subst, ◌∙◌, append_assoc, append-nil, arith}
 use Rattle.std.specs.Prelude.{Result, Ok, Err}
-use Rattle.bv_io.specs.Log.{Event, Wrote}
+use Rattle.bv_io.specs.Log.{Event, Wrote, NotWritten}
 use Rattle.bv_io.specs.Sink.{with_bytes}
 use Rattle.bv_io.specs.declared.sink.SinkFault.{SinkFault}
 use Rattle.bv_io.proofs.Loops.{with_bytes-nil, with_bytes-append, part_of_piece}
@@ -25,18 +25,34 @@ takes_both first more w w' w'' l l' l'' f f' f'' a b = record {
 }
 
 -- the sink fails in the first part
-pub first_fails : (first more whole : List ℕ) (w w' : Option (List ℕ)) (f f' : ℕ) → first ++ more ≡ whole → TakesPart first w w' f f' → TakesPart whole w w' f f'
-first_fails first more whole w w' f f' is a = record {
+pub first_fails : (first more whole : List ℕ) (w w' : Option (List ℕ)) (l l' : List Event) (f f' : ℕ) → first ++ more ≡ whole → TakesPart first w w' l l' f f'
+    → TakesPart whole w w' l l' f f'
+first_fails first more whole w w' l l' f f' is a = record {
   part = part_of_piece w w w' [] first whole (sym (with_bytes-nil w)) (more, sym is) a.part;
+  at_byte = record {
+    accepted = a.at_byte.accepted;
+    byte = a.at_byte.byte;
+    rest = a.at_byte.rest ++ more;
+    split = sym is ∙ ap (λ t. t ++ more) a.at_byte.split ∙ append_assoc a.at_byte.accepted (a.at_byte.byte ∷ a.at_byte.rest) more;
+    logged = a.at_byte.logged;
+  };
   cause = a.cause;
   faults = a.faults;
 }
 
 -- and in the second
-pub second_fails : (first more : List ℕ) (w w' w'' : Option (List ℕ)) (l l' : List Event) (f f' f'' : ℕ) → TakesAll first w w' l l' f f' → TakesPart more w' w'' f' f''
-    → TakesPart (first ++ more) w w'' f f''
-second_fails first more w w' w'' l l' f f' f'' a b = record {
+pub second_fails : (first more : List ℕ) (w w' w'' : Option (List ℕ)) (l l' l'' : List Event) (f f' f'' : ℕ) → TakesAll first w w' l l' f f'
+    → TakesPart more w' w'' l' l'' f' f'' → TakesPart (first ++ more) w w'' l l'' f f''
+second_fails first more w w' w'' l l' l'' f f' f'' a b = record {
   part = part_of_piece w w' w'' first more (first ++ more) a.written ([], sym (append-nil (first ++ more))) b.part;
+  at_byte = record {
+    accepted = first ++ b.at_byte.accepted;
+    byte = b.at_byte.byte;
+    rest = b.at_byte.rest;
+    split = ap (λ t. first ++ t) b.at_byte.split ∙ sym (append_assoc first b.at_byte.accepted (b.at_byte.byte ∷ b.at_byte.rest));
+    logged = b.at_byte.logged
+        ∙ ap (λ t. NotWritten (b.at_byte.byte ∷ []) ∷ t) (ap (byte_writes b.at_byte.accepted) a.each_byte ∙ sym (byte_writes-append first b.at_byte.accepted l));
+  };
   cause = omega (arith, a.faults, b.cause);
   faults = omega (arith, a.faults, b.faults);
 }
@@ -44,7 +60,7 @@ second_fails first more w w' w'' l l' f f' f'' a b = record {
 takes_second : {T : Type 0} (first more : List ℕ) (w w' w'' : Option (List ℕ)) (l l' l'' : List Event) (f f' f'' : ℕ) (r : Result T SinkFault)
     → TakesAll first w w' l l' f f' → Takes r more w' w'' l' l'' f' f'' → Takes r (first ++ more) w w'' l l'' f f''
 takes_second first more w w' w'' l l' l'' f f' f'' (Ok _) a b = takes_both first more w w' w'' l l' l'' f f' f'' a b
-takes_second first more w w' w'' l l' l'' f f' f'' (Err _) a b = second_fails first more w w' w'' l l' f f' f'' a b
+takes_second first more w w' w'' l l' l'' f f' f'' (Err _) a b = second_fails first more w w' w'' l l' l'' f f' f'' a b
 
 -- all of the first part, and the second by its answer
 pub takes_whole : {T : Type 0} (first more whole : List ℕ) (w w' w'' : Option (List ℕ)) (l l' l'' : List Event) (f f' f'' : ℕ) (r : Result T SinkFault)

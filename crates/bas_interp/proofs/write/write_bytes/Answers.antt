@@ -1,4 +1,4 @@
-use Rattle.std.proofs.Common.{◌≡◌, ◌+◌, [], ◌∷◌, ◌++◌, take, drop, get_or, subst, sym, ap, ◌∙◌, take-append-drop}
+use Rattle.std.proofs.Common.{◌≡◌, ◌+◌, [], ◌∷◌, ◌++◌, take, drop, get_or, subst, refl, sym, ap, ◌∙◌, take-append-drop}
 use Rattle.std.proofs.lemmas.List.{take_more}
 use Rattle.bas_interp.specs.Writes.{TakesAll}
 use Rattle.bas_interp.proofs.Writing.{takes_both, first_fails, second_fails}
@@ -11,8 +11,14 @@ returns-in-Err g c =
     let b = get_or bytes i 0 in
     let split : (take i bytes ++ b ∷ []) ++ drop (i + 1) bytes ≡ bytes =
     ap (λ l. l ++ drop (i + 1) bytes) (sym (take_more bytes i 0 c.bytes-test.true)) ∙ take-append-drop (i + 1) bytes in
-    first_fails (take i bytes ++ b ∷ []) (drop (i + 1) bytes) bytes _ _ _ _ split
-    (second_fails (take i bytes) (b ∷ []) _ _ _ _ _ _ _ _ c.bytes.invariant (record { part = c.in-Err.ensures.part; cause = c.in-Err.ensures.failed; faults = c.in-Err.ensures.faults }))
+    first_fails (take i bytes ++ b ∷ []) (drop (i + 1) bytes) bytes _ _ _ _ _ _ split
+    (second_fails (take i bytes) (b ∷ []) _ _ _ _ _ _ _ _ _ c.bytes.invariant
+    (record {
+      part = c.in-Err.ensures.part;
+      at_byte = record { accepted = []; byte = b; rest = []; split = refl; logged = c.in-Err.ensures.logged };
+      cause = c.in-Err.ensures.failed;
+      faults = c.in-Err.ensures.faults;
+    }))
 
 pub bytes-preserved : goal.bytes-preserved
 bytes-preserved g c =

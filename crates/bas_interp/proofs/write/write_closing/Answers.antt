@@ -11,7 +11,7 @@ in_two xs at digits line = sym (ap (λ l. l ++ line) (append_assoc xs at digits)
 
 pub returns-in-Err : goal.returns-in-Err
 returns-in-Err g c =
-    first_fails (new_line ++ c.args.text.now) (codes " at line " ++ decimal_digits c.args.line ++ new_line) _ _ _ _ _
+    first_fails (new_line ++ c.args.text.now) (codes " at line " ++ decimal_digits c.args.line ++ new_line) _ _ _ _ _ _ _
     (in_two (new_line ++ c.args.text.now) (codes " at line ") (decimal_digits c.args.line) new_line) c.in-Err.ensures
 
 pub returns : goal.returns

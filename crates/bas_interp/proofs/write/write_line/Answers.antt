@@ -6,7 +6,7 @@ use Rattle.bas_interp.proofs.write.write_line.Goals as goal
 
 pub returns-in-Err : goal.returns-in-Err
 returns-in-Err g c =
-    first_fails (codes " at line " ++ c.as_slice.result.now) new_line _ _ _ _ _
+    first_fails (codes " at line " ++ c.as_slice.result.now) new_line _ _ _ _ _ _ _
     (ap (λ l. codes " at line " ++ l ++ new_line) (c.as_slice.ensures ∙ c.line_text.ensures)) c.in-Err.ensures
 
 pub returns : goal.returns
