@@ -2,9 +2,9 @@
 
 use arm2_machine::{Board, read_image};
 use bas_compile::compile;
-use profile_check::Refusal;
 use bv_io::MemSink;
 use bv_run::{Report, RunEnd};
+use profile_check::Refusal;
 use std::alloc::Global;
 use std::test::Fail;
 

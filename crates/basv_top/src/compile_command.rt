@@ -9,9 +9,9 @@ ghost use Rattle.basv_top.specs.Seen.{Same, SeenShelf, seen_shelf};
 use crate::ending::Ending;
 use crate::taking::take_within;
 use bas_compile::compile as compile_bytes;
-use profile_check::LONG_FILE;
 use bv_base::FILE_BYTES;
 use bv_io::Shelf;
+use profile_check::LONG_FILE;
 use std::alloc::Global;
 
 /// Compiles the bytes of a file, which were taken just before, and puts their image under a name.

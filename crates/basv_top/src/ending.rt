@@ -5,11 +5,11 @@ ghost use Rattle.basv_top.specs.Ending.{told, ended, ended_run, status_of, refus
 use crate::limits::{LONG_CRUNCHED, LONG_IMAGE};
 use crate::status::Status;
 use arm2_machine::ImageError;
-use profile_check::Refusal;
 use basv_crunch::CrunchError;
 use bv_base::NoMemory;
 use bv_io::{PutError, SinkFault, TakeError};
 use bv_run::{Report, RunEnd};
+use profile_check::Refusal;
 use token_file::FileError;
 
 /// How a command ended, with what its line on the error output tells.

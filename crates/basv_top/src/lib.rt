@@ -16,7 +16,7 @@ mod taking;
 mod top;
 
 pub use bas_compile::compile;
-pub use profile_check::{Refusal, Which};
 pub use laws::basv_in_memory;
+pub use profile_check::{Refusal, Which};
 pub use status::Status;
 pub use top::basv;

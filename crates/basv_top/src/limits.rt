@@ -1,7 +1,7 @@
 //! How contents of too many bytes are refused. The count stops one past the limit.
 
-use profile_check::{Refusal, Which};
 use bv_base::{CRUNCHED_FILE_BYTES, IMAGE_WORDS, INPUT_BYTES, TEXT_FILE_BYTES};
+use profile_check::{Refusal, Which};
 
 /// How an image of too many words is refused.
 pub const LONG_IMAGE: Refusal = Refusal::Limit {

@@ -7,10 +7,10 @@ ghost use Rattle.basv_top.specs.Seen.{Same, seen_shelf, seen_sink};
 
 use crate::ending::Ending;
 use crate::taking::take_within;
-use profile_check::LONG_FILE;
 use bv_base::FILE_BYTES;
 use bv_io::{Shelf, Sink};
 use lister::list_lines;
+use profile_check::LONG_FILE;
 use std::alloc::Global;
 use token_file::read_file;
 

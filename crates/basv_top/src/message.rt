@@ -8,11 +8,11 @@ ghost use Rattle.basv_top.specs.Seen.{Writes, seen_sink};
 
 use crate::ending::Ending;
 use crate::status::Status;
-use profile_check::{Refusal, Which};
 use bv_io::{Sink, SinkFault};
 use bv_num::digit_byte;
 use bv_run::{Report, RunEnd, Trap};
 use itoa::Buffer;
+use profile_check::{Refusal, Which};
 
 const USAGE: &[u8] =
     b"usage: basv list FILE / compile FILE IMAGE / interp FILE / run IMAGE / selftest SEED LINES / crunch TEXT FILE";

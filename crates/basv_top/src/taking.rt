@@ -5,8 +5,8 @@ ghost use Rattle.basv_top.specs.Seen.{Same, seen_shelf};
 ghost use Rattle.basv_top.specs.Taking.{Calm, TakeFails, Takes};
 
 use crate::ending::Ending;
-use profile_check::Refusal;
 use bv_io::Shelf;
+use profile_check::Refusal;
 use std::alloc::Global;
 
 /// The content of a name, of at most `max` bytes. One that has more is refused as `too_long`.
