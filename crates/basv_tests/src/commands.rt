@@ -9,6 +9,9 @@ use std::test::Fail;
 /// `10VDU 65`
 const VDU_65: &[u8] = b"\x0d\x00\x0a\x08\xef 65\x0d\xff";
 
+/// `10VDU 120`
+const VDU_120: &[u8] = b"\x0d\x00\x0a\x09\xef 120\x0d\xff";
+
 /// The image of `10VDU 65`.
 const VDU_65_IMAGE: &[u8] = b"BVA2\x04\0\0\0\x41\0\xa0\xe3\0\0\0\xef\0\0\xa0\xe3\x11\0\0\xef";
 
@@ -195,6 +198,9 @@ const USAGE: &[u8] =
 /// The image of a branch to itself.
 const LOOPING_IMAGE: &[u8] = b"BVA2\x01\0\0\0\xfe\xff\xff\xea";
 
+/// `10GOTO 10`
+const LOOPING: &[u8] = b"\x0d\x00\x0a\x0a\xe5 \x8d\x54\x4a\x40\x0d\xff";
+
 const LIST: &[&str] = &["list", "f"];
 
 const COMPILE: &[&str] = &["compile", "f", "i"];
@@ -203,7 +209,7 @@ const CRUNCH: &[&str] = &["crunch", "f", "g"];
 
 #[rattlefmt::skip]
 /// Words, the content of `f`, and the status and the line of a command that writes nothing to the output.
-const LINES: [(&[&str], &[u8], Status, &[u8]); 18] = [
+const LINES: [(&[&str], &[u8], Status, &[u8]); 23] = [
     (COMPILE, VDU_65, Status::Done, b""),
     (COMPILE, b"", Status::Malformed, b"malformed file at byte 0\n"),
     (COMPILE, b"\x0d\x00\x0a\x07\xf1", Status::Malformed, b"malformed file at byte 0\n"),
@@ -217,7 +223,12 @@ const LINES: [(&[&str], &[u8], Status, &[u8]); 18] = [
     (&["list"], VDU_65, Status::Usage, USAGE),
     (&["list", "f", "--steps", "5"], VDU_65, Status::Usage, USAGE),
     (&["list", "--", "-x"], VDU_65, Status::ReadFault, b"cannot read -x\n"),
-    (&["interp", "f"], VDU_65, Status::Usage, USAGE),
+    (&["interp"], VDU_65, Status::Usage, USAGE),
+    (&["interp", "f", "i"], VDU_65, Status::Usage, USAGE),
+    (&["interp", "x"], VDU_65, Status::ReadFault, b"cannot read x\n"),
+    (&["interp", "f"], b"\x0d\x00\x0a\x05A\x0d\x00\x14\x07\xf1", Status::Malformed, b"malformed file at byte 5\n"),
+    (&["interp", "f"], b"\x0d\x00\x0a\x05A\x0d\xff", Status::Outside, b"outside the profile at line 10\n"),
+    (&["interp", "f", "--steps", "1000"], LOOPING, Status::Bound, b"bound 1000 reached\n"),
     (&["run", "f", "--steps", "1000"], LOOPING_IMAGE, Status::Bound, b"bound 1000 reached\n"),
     (CRUNCH, b"10 PRINT 5\n", Status::Done, b""),
     (CRUNCH, b"\nPRINT 1", Status::BadText, b"bad text at line 2\n"),
@@ -225,8 +236,9 @@ const LINES: [(&[&str], &[u8], Status, &[u8]); 18] = [
 ];
 
 /// Words, the number of zeros that `f` has, which is one too many, and the line.
-const TOO_LONG: [(&[&str], usize, &[u8]); 3] = [
+const TOO_LONG: [(&[&str], usize, &[u8]); 4] = [
     (LIST, 65_537, b"limit file at 65537\n"),
+    (&["interp", "f"], 65_537, b"limit file at 65537\n"),
     (COMPILE, 65_537, b"limit file at 65537\n"),
     (CRUNCH, 1_048_577, b"limit text at 1048577\n"),
 ];
@@ -340,7 +352,7 @@ fn shelves_and_outputs_fail(rt: HostRuntime) -> Result<(), Fail> {
 const FOUR_LINES: &[u8] =
     b"\x0d\0\x0a\x08\xef 65\x0d\0\x14\x08\xef 66\x0d\0\x1e\x08\xef 67\x0d\0\x28\x08\xef 68\x0d\xff";
 
-/// The number of the write that fails in the run of `FOUR_LINES`, or 0, the status, what was written, and the line.
+/// The number of the write that fails in a run of `FOUR_LINES`, or 0, the status, what was written, and the line.
 const FAILING_WRITES: [(u64, Status, &[u8], &[u8]); 6] = [
     (0, Status::Done, b"ABCD", b""),
     (1, Status::WriteFault, b"", b"cannot write\n"),
@@ -358,11 +370,20 @@ fn runs_compiled(alloc: Global, failing: u64) -> Result<Ended, Fail> {
     run_into(alloc, &["run", "i"], &mut shelf, 100, failing, 100)
 }
 
+/// How `FOUR_LINES`, interpreted, ends where a write to the output fails.
+fn interprets(alloc: Global, failing: u64) -> Result<Ended, Fail> {
+    let mut shelf = MemShelf::new(alloc);
+    shelf.add("f", FOUR_LINES)?;
+    run_into(alloc, &["interp", "f"], &mut shelf, 100, failing, 100)
+}
+
 #[test]
-fn compiled_images_are_run(rt: HostRuntime) -> Result<(), Fail> {
+fn compiled_and_interpreted_programs_write_alike(rt: HostRuntime) -> Result<(), Fail> {
     for (failing, status, output, line) in FAILING_WRITES {
         let ended = runs_compiled(rt.alloc(), failing)?;
-        assert!(rt; ended.is(status, output, line), "{failing}");
+        assert!(rt; ended.is(status, output, line), "compiled, {failing}");
+        let ended = interprets(rt.alloc(), failing)?;
+        assert!(rt; ended.is(status, output, line), "interpreted, {failing}");
     }
     Ok(())
 }
@@ -407,10 +428,10 @@ const OPTIONS: [(&[&str], Status, &[u8], &[u8]); 31] = [
     (&["--", "f", "--input", "i"], Status::Usage, b"", USAGE),
 ];
 
-/// A shelf with `READING_IMAGE`, an input and one that is too long.
-fn reading_shelf(alloc: Global) -> Result<MemShelf, Fail> {
+/// A shelf with `f`, an input and one that is too long.
+fn reading_shelf(alloc: Global, f: &[u8]) -> Result<MemShelf, Fail> {
     let mut shelf = MemShelf::new(alloc);
-    shelf.add("f", READING_IMAGE)?;
+    shelf.add("f", f)?;
     shelf.add("i", b"x")?;
     let long = vec![in alloc; 0; 1_048_577]?;
     shelf.add("long", long.as_slice())?;
@@ -421,7 +442,7 @@ fn reading_shelf(alloc: Global) -> Result<MemShelf, Fail> {
 fn runs_with(alloc: Global, more: &[&str]) -> Result<Ended, Fail> {
     let mut words = vec![in alloc; "run"]?;
     words.extend_from_slice(more)?;
-    let mut shelf = reading_shelf(alloc)?;
+    let mut shelf = reading_shelf(alloc, READING_IMAGE)?;
     run_into(alloc, words.as_slice(), &mut shelf, 200, 0, 200)
 }
 
@@ -435,7 +456,7 @@ fn options_say_how_an_image_is_run(rt: HostRuntime) -> Result<(), Fail> {
 }
 
 #[rattlefmt::skip]
-/// The call of the shelf and the write that fail in a run with an input and an arena, the status, the output, the line, and
+/// The call of the shelf and the write that fail in a run with an input and an arena, or in an interpretation, the status, the output, the line, and
 /// the number of the arena's bytes that are put.
 const FAILING_RUNS: [(u64, u64, Status, &[u8], &[u8], Option<usize>); 5] = [
     (0, 0, Status::Done, b"x", b"", Some(524_288)),
@@ -445,11 +466,18 @@ const FAILING_RUNS: [(u64, u64, Status, &[u8], &[u8], Option<usize>); 5] = [
     (0, 1, Status::WriteFault, b"", b"cannot write\n", None),
 ];
 
-/// How a run with an input and an arena ends, and the number of the arena's bytes that are put.
-fn runs_failing(alloc: Global, call: u64, write: u64) -> Result<(Ended, Option<usize>), Fail> {
-    let mut shelf = reading_shelf(alloc)?;
+/// How a run with an input and an arena ends, and the number of the arena's bytes that are put. `f` is what is run, by
+/// the command of this name.
+fn runs_failing(
+    alloc: Global,
+    command: &str,
+    f: &[u8],
+    call: u64,
+    write: u64,
+) -> Result<(Ended, Option<usize>), Fail> {
+    let mut shelf = reading_shelf(alloc, f)?;
     shelf.fail_at(call)?;
-    let words = ["run", "f", "--input", "i", "--arena", "a"];
+    let words = [command, "f", "--input", "i", "--arena", "a"];
     let ended = run_into(alloc, &words, &mut shelf, 200, write, 200)?;
     let put = match shelf.take(alloc, "a", 1_000_000) {
         Ok(bytes) => Some(bytes.len()),
@@ -461,10 +489,15 @@ fn runs_failing(alloc: Global, call: u64, write: u64) -> Result<(Ended, Option<u
 #[test]
 fn runs_fail_in_turn(rt: HostRuntime) -> Result<(), Fail> {
     for (call, write, status, output, line, arena) in FAILING_RUNS {
-        let (ended, put) = runs_failing(rt.alloc(), call, write)?;
+        let (ended, put) = runs_failing(rt.alloc(), "run", READING_IMAGE, call, write)?;
         assert!(rt;
             ended.is(status, output, line) && put == arena,
-            "{call} {write}"
+            "run {call} {write}"
+        );
+        let (ended, put) = runs_failing(rt.alloc(), "interp", VDU_120, call, write)?;
+        assert!(rt;
+            ended.is(status, output, line) && put == arena,
+            "interp {call} {write}"
         );
     }
     Ok(())

@@ -8,3 +8,5 @@ mod RunFacts
 mod CompileFacts
 mod ListFacts
 mod CrunchFacts
+mod InterpFacts
+mod NoFaults

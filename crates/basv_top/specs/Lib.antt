@@ -6,6 +6,7 @@ pub mod CompileCommand
 pub mod Running
 pub mod RunPromises
 pub mod RunCommand
+pub mod InterpCommand
 pub mod Top
 pub mod InMemory
 pub mod CrunchCommand

@@ -5,6 +5,7 @@
 mod compile_command;
 mod crunch_command;
 mod ending;
+mod interp_command;
 mod laws;
 mod limits;
 mod list_command;

@@ -1,9 +1,10 @@
 //! The program: what its words ask for, and how it ends.
 ghost use Rattle.std.specs.Prelude.{◌≡◌, ◌≢◌, ◌⊎◌, ℕ, List, None, Some, map, string_bytes};
-ghost use Rattle.basv_words.specs.Command.{Options, Listing, Compile, Run, Crunch, command_of};
+ghost use Rattle.basv_words.specs.Command.{Options, Listing, Compile, Run, Interpret, Crunch, command_of};
 ghost use Rattle.basv_top.specs.CompileCommand.{Compiles};
 ghost use Rattle.basv_top.specs.CrunchCommand.{Crunches};
 ghost use Rattle.basv_top.specs.Ending.{told, status_of};
+ghost use Rattle.basv_top.specs.InterpCommand.{Interprets};
 ghost use Rattle.basv_top.specs.ListCommand.{Lists};
 ghost use Rattle.basv_top.specs.RunCommand.{Runs};
 ghost use Rattle.basv_top.specs.Seen.{Silent, seen_shelf, seen_sink};
@@ -12,6 +13,7 @@ ghost use Rattle.basv_top.specs.Top.{Ends, EndsCommand, OnlyNamed, SameUnlessWri
 use crate::compile_command::compile;
 use crate::crunch_command::crunch;
 use crate::ending::Ending;
+use crate::interp_command::interpret;
 use crate::list_command::list;
 use crate::message::report;
 use crate::run_command::run;
@@ -36,6 +38,7 @@ fn carry_out<'a, S: Shelf, O: Sink>(
         Some(Command::List { file }) => list(alloc, file, shelf, out),
         Some(Command::Compile { file, image }) => compile(alloc, file, image, shelf),
         Some(Command::Run { image, options }) => run(alloc, image, options, shelf, out),
+        Some(Command::Interpret { file, options }) => interpret(alloc, file, options, shelf, out),
         Some(Command::Crunch { text, file }) => crunch(alloc, text, file, shelf),
         None => Ending::Usage,
     }
@@ -45,7 +48,8 @@ fn carry_out<'a, S: Shelf, O: Sink>(
 /// shelf holds under FILE to `out`. `compile FILE IMAGE` puts that program's image file under IMAGE. `run IMAGE` runs the
 /// image that the shelf holds under IMAGE on the board, and writes its output to `out`; with `--input F` its input is what
 /// the shelf holds under F, with `--steps N` it ends after N instructions, and with `--arena F` the arena is put under F
-/// after the run. `crunch TEXT FILE` puts the tokenised file of a program's text under FILE. Where the command, or the
+/// after the run. `interp FILE` interprets the tokenised program that the shelf holds under FILE, with the same options,
+/// where N is a number of steps of the program. `crunch TEXT FILE` puts the tokenised file of a program's text under FILE. Where the command, or the
 /// program that ran, isn't done, one line on `err` says why.
 pub fn basv<S: Shelf, O: Sink, E: Sink>(
     alloc: Global,
@@ -65,6 +69,9 @@ pub fn basv<S: Shelf, O: Sink, E: Sink>(
     ensures run { (image : List ℕ) (options : Options) → command_of (map string_bytes words.now) ≡ Some (Run image options)
         → Runs (seen_shelf S.Shelf shelf.old) (seen_shelf S.Shelf shelf.new)
         (seen_sink O.Sink out.old) (seen_sink O.Sink out.new) image options result }
+    ensures interp { (file : List ℕ) (options : Options) → command_of (map string_bytes words.now) ≡ Some (Interpret file options)
+        → Interprets (seen_shelf S.Shelf shelf.old) (seen_shelf S.Shelf shelf.new)
+        (seen_sink O.Sink out.old) (seen_sink O.Sink out.new) file options result }
     ensures crunch { (text file : List ℕ) → command_of (map string_bytes words.now) ≡ Some (Crunch text file)
         → Crunches (seen_shelf S.Shelf shelf.old) (seen_shelf S.Shelf shelf.new)
         (seen_sink O.Sink out.old) (seen_sink O.Sink out.new) text file result }

@@ -11,11 +11,12 @@ pub record Options : Type 0 where
   pub steps : ℕ
   pub arena : Option (List ℕ)
 
--- list a file, compile it to an image, run an image, or tokenise a text to a file
+-- list a file, compile it to an image, run an image, interpret a file, or tokenise a text to a file
 pub data Command : Type 0 where
   Listing : (file : List ℕ) → Command
   Compile : (file image : List ℕ) → Command
   Run : (image : List ℕ) (options : Options) → Command
+  Interpret : (file : List ℕ) (options : Options) → Command
   Crunch : (text file : List ℕ) → Command
 
 -- the bound of a run for which none is asked
@@ -67,6 +68,7 @@ by_name name (Some g) =
     else if bytes_eq name (codes "compile") then two_names Compile (plain g)
     else if bytes_eq name (codes "crunch") then two_names Crunch (plain g)
     else if bytes_eq name (codes "run") then running Run g.names (options_with g (bound_of g.steps))
+    else if bytes_eq name (codes "interp") then running Interpret g.names (options_with g (bound_of g.steps))
     else None
 
 -- the command that the words are, if they are one

@@ -14,7 +14,7 @@ use Rattle.basv_words.specs.declared.command.Options.{Options as Chosen}
 use Rattle.basv_words.specs.declared.command.Command.{Command as Meant}
 use Rattle.basv_words.specs.declared.command.Command.TheVariants as commands
 use Rattle.basv_words.specs.Given.{Given, Asked, Awaits, Has, Place, Open, Value, Closed, read, joined, few}
-use Rattle.basv_words.specs.Command.{Command, Options, Listing, Compile, Run, Crunch}
+use Rattle.basv_words.specs.Command.{Command, Options, Listing, Compile, Run, Interpret, Crunch}
 
 abbrev pub told : Told → Asked
 told (asks.NextWord setting) = Awaits setting
@@ -46,6 +46,7 @@ abbrev pub meant : Meant → Command
 meant (commands.List file) = Listing file.now
 meant (commands.Compile file image) = Compile file.now image.now
 meant (commands.Run image options) = Run image.now (chosen options)
+meant (commands.Interpret file options) = Interpret file.now (chosen options)
 meant (commands.Crunch text file) = Crunch text.now file.now
 
 -- what all words give, where those before a place give this

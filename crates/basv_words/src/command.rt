@@ -37,6 +37,11 @@ pub enum Command<'a> {
         image: &'a str,
         options: Options<'a>,
     },
+    /// Interpret a program's file.
+    Interpret {
+        file: &'a str,
+        options: Options<'a>,
+    },
     /// Tokenise a text to a program's file.
     Crunch {
         text: &'a str,
@@ -100,6 +105,10 @@ fn command_named<'a>(name: &str, given: Given<'a>) -> Option<Command<'a>>
         ("crunch", Names::Two(text, file), _) => Some(Command::Crunch { text, file }),
         ("run", _, Names::One(image)) => Some(Command::Run {
             image,
+            options: given.options()?,
+        }),
+        ("interp", _, Names::One(file)) => Some(Command::Interpret {
+            file,
             options: given.options()?,
         }),
         _ => None,
