@@ -4,11 +4,8 @@ use Rattle.bv_io.specs.Log.{Event, NotWritten}
 use Rattle.bv_run.specs.Runs.{Turn, Goes, Ends, Progress, Going, Ended, after_turn, with_front, output_so_far, run}
 use Rattle.bv_run.proofs.RunLaws.{run-zero, run-suc, run-going, run_extends}
 use Rattle.bv_io.proofs.Loops.{IsSoFar}
-use Rattle.arm2_machine.specs.Writes.{byte_writes, FailsAtByte}
-
-pub byte_writes-append : (first more : List ℕ) (log : List Event) → byte_writes (first ++ more) log ≡ byte_writes more (byte_writes first log)
-byte_writes-append [] more log = refl
-byte_writes-append (byte ∷ first) more log = byte_writes-append first more _
+use Rattle.bv_io.proofs.ByteWrites.{byte_writes-append}
+use Rattle.bv_io.specs.Writes.{byte_writes, FailsAtByte}
 
 output-with_front : {S E : Type 0} (front : List ℕ) (p : Progress S E) → output_so_far (with_front front p) ≡ front ++ output_so_far p
 output-with_front front (Going state out) = refl

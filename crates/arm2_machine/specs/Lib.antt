@@ -6,4 +6,3 @@ pub mod Step
 pub mod Stretch
 pub mod Board
 pub mod Image
-pub mod Writes

@@ -6,7 +6,7 @@ ghost use Rattle.bv_io.specs.Shelf.{Rose};
 ghost use Rattle.bv_io.specs.Sink.{with_bytes, WritesPart};
 ghost use Rattle.arm2_machine.specs.Machine.{loaded, arena_of};
 ghost use Rattle.arm2_machine.specs.Step.{board_step, bytes_of};
-ghost use Rattle.arm2_machine.specs.Writes.{byte_writes, FailsAtByte};
+ghost use Rattle.bv_io.specs.Writes.{byte_writes, FailsAtByte};
 
 use crate::machine::Machine;
 use crate::step::{Output, StepOutcome};

@@ -1,15 +1,13 @@
 -- Bytes that are handed to a sink in two parts.
 use Rattle.std.proofs.Common.{◌≡◌, ℕ, List, [], ◌∷◌, ◌++◌, Option, refl, sym, ap, subst, ◌∙◌, append_assoc, append-nil, arith}
 use Rattle.std.specs.Prelude.{Result, Ok, Err}
-use Rattle.bv_io.specs.Log.{Event, Wrote, NotWritten}
+use Rattle.bv_io.specs.Log.{Event, NotWritten}
 use Rattle.bv_io.specs.Sink.{with_bytes}
 use Rattle.bv_io.specs.declared.sink.SinkFault.{SinkFault}
 use Rattle.bv_io.proofs.Loops.{with_bytes-nil, with_bytes-append, part_of_piece}
-use Rattle.bas_interp.specs.Writes.{byte_writes, TakesAll, TakesPart, Takes}
-
-pub byte_writes-append : (first more : List ℕ) (log : List Event) → byte_writes (first ++ more) log ≡ byte_writes more (byte_writes first log)
-byte_writes-append [] more log = refl
-byte_writes-append (byte ∷ first) more log = byte_writes-append first more (Wrote (byte ∷ []) ∷ log)
+use Rattle.bv_io.specs.Writes.{byte_writes}
+use Rattle.bv_io.proofs.ByteWrites.{byte_writes-append}
+use Rattle.bas_interp.specs.Writes.{TakesAll, TakesPart, Takes}
 
 -- no bytes
 pub takes_none : (old : Option (List ℕ)) (log : List Event) (faults : ℕ) → TakesAll [] old old log log faults faults
@@ -34,7 +32,7 @@ first_fails first more whole w w' l l' f f' is a = record {
     byte = a.at_byte.byte;
     rest = a.at_byte.rest ++ more;
     split = sym is ∙ ap (λ t. t ++ more) a.at_byte.split ∙ append_assoc a.at_byte.accepted (a.at_byte.byte ∷ a.at_byte.rest) more;
-    logged = a.at_byte.logged;
+    log = a.at_byte.log;
   };
   cause = a.cause;
   faults = a.faults;
@@ -50,7 +48,7 @@ second_fails first more w w' w'' l l' l'' f f' f'' a b = record {
     byte = b.at_byte.byte;
     rest = b.at_byte.rest;
     split = ap (λ t. first ++ t) b.at_byte.split ∙ sym (append_assoc first b.at_byte.accepted (b.at_byte.byte ∷ b.at_byte.rest));
-    logged = b.at_byte.logged
+    log = b.at_byte.log
         ∙ ap (λ t. NotWritten (b.at_byte.byte ∷ []) ∷ t) (ap (byte_writes b.at_byte.accepted) a.each_byte ∙ sym (byte_writes-append first b.at_byte.accepted l));
   };
   cause = omega (arith, a.faults, b.cause);

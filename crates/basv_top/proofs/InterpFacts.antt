@@ -5,16 +5,14 @@ use Rattle.std.specs.List.{AllByRecursion}
 use Rattle.bv_base.specs.Bytes.{zeros}
 use Rattle.bv_base.specs.Limits.{file_bytes}
 use Rattle.bv_base.specs.MemoryMap.{arena_bytes}
-use Rattle.bv_io.specs.Log.{Event, Wrote, NotWritten}
 use Rattle.bv_io.specs.Shelf.{Rose}
 use Rattle.bv_io.specs.Sink.{with_bytes, WritesPart}
+use Rattle.bv_io.specs.Writes.{byte_writes, FailsAtByte}
 use Rattle.bv_run.specs.Outcome.{Outcome, output_of}
 use Rattle.bv_run.specs.declared.report.RunEnd.{RunEnd}
 use Rattle.bv_run.specs.declared.report.RunEnd.TheVariants as ends
-use Rattle.arm2_machine.specs.Writes as board
 use Rattle.bas_ast.specs.declared.program.Prog.{Prog}
 use Rattle.bas_interp.specs.Runs.{InterpState, OfPrograms, outcome_by}
-use Rattle.bas_interp.specs.Writes as interpreter
 use Rattle.bas_sem.specs.Meaning.{source_run}
 use Rattle.ir_build.specs.Code.{flat_code}
 use Rattle.profile_check.specs.declared.refusal.Refusal.{Refusal}
@@ -123,20 +121,6 @@ pub texts_fit : (texts : List (List ℕ)) → AllByRecursion (λ text. length te
 texts_fit [] each = tt
 texts_fit (text ∷ texts) each = (omega (arith, each.0), texts_fit texts each.1)
 
--- the two lists of writes are one
-same_writes : (bytes : List ℕ) (log : List Event) → interpreter.byte_writes bytes log ≡ board.byte_writes bytes log
-same_writes [] log = refl
-same_writes (byte ∷ bytes) log = same_writes bytes (Wrote (byte ∷ []) ∷ log)
-
-same_fault : (bytes : List ℕ) (log log' : List Event) → interpreter.FailsAtByte bytes log log' → board.FailsAtByte bytes log log'
-same_fault bytes log log' fails = record {
-  accepted = fails.accepted;
-  byte = fails.byte;
-  rest = fails.rest;
-  split = fails.split;
-  log = subst (λ l. log' ≡ NotWritten (fails.byte ∷ []) ∷ l) (same_writes fails.accepted log) fails.logged;
-}
-
 -- how the run ended, and the arena that it left
 end_is : (outcome : Outcome) (end : RunEnd) (out arena : List ℕ) → outcome ≡ outcome_by end out arena → end_of outcome ≡ end
 end_is outcome (ends.Over report) out arena is = ap end_of is
@@ -154,20 +138,20 @@ module _ (s : InterpState) (prog : Prog) (input : List ℕ) (bound : ℕ) (is : 
   of_program Holds each = subst (λ i. Holds (source_run prog i bound)) (ap (λ t. t.input) is) (each prog (sym (ap (λ t. t.ir) is)))
 
   pub run_faults : (before after : SeenSink) → OfPrograms s.ir (λ p. WritesPart before.written (output_of (source_run p s.input bound)) after.written)
-      → OfPrograms s.ir (λ p. interpreter.FailsAtByte (output_of (source_run p s.input bound)) before.log after.log) → Rose before.faults after.faults
+      → OfPrograms s.ir (λ p. FailsAtByte (output_of (source_run p s.input bound)) before.log after.log) → Rose before.faults after.faults
       → FaultsRun (source_run prog input bound) before after
   run_faults before after part byte rose = (
     of_program (λ o. WritesPart before.written (output_of o) after.written) part,
-    same_fault (output_of (source_run prog input bound)) before.log after.log (of_program (λ o. interpreter.FailsAtByte (output_of o) before.log after.log) byte),
+    of_program (λ o. FailsAtByte (output_of o) before.log after.log) byte,
     rose,
   )
 
   pub run_writes : (before after : SeenSink) → OfPrograms s.ir (λ p. after.written ≡ with_bytes before.written (output_of (source_run p s.input bound)))
-      → OfPrograms s.ir (λ p. after.log ≡ interpreter.byte_writes (output_of (source_run p s.input bound)) before.log)
+      → OfPrograms s.ir (λ p. after.log ≡ byte_writes (output_of (source_run p s.input bound)) before.log)
       → WritesRun (source_run prog input bound) before after
   run_writes before after written logged = (
     of_program (λ o. after.written ≡ with_bytes before.written (output_of o)) written,
-    of_program (λ o. after.log ≡ interpreter.byte_writes (output_of o) before.log) logged ∙ same_writes (output_of (source_run prog input bound)) before.log,
+    of_program (λ o. after.log ≡ byte_writes (output_of o) before.log) logged,
   )
 
   pub run_ends : (end : RunEnd) (arena : List ℕ) → OfPrograms s.ir (λ p. source_run p s.input bound ≡ outcome_by end (output_of (source_run p s.input bound)) arena)

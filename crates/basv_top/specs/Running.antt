@@ -9,7 +9,7 @@ use Rattle.bv_io.specs.Sink.{with_bytes, WritesPart}
 use Rattle.bv_run.specs.declared.report.RunEnd.{RunEnd}
 use Rattle.bv_run.specs.declared.report.RunEnd.TheVariants as ends
 use Rattle.bv_run.specs.Outcome.{Outcome, Over, Going, Broken, output_of}
-use Rattle.arm2_machine.specs.Writes.{byte_writes, FailsAtByte}
+use Rattle.bv_io.specs.Writes.{byte_writes, FailsAtByte}
 use Rattle.profile_check.specs.declared.refusal.Refusal.{Refusal}
 use Rattle.profile_check.specs.declared.refusal.Refusal.TheVariants as refusals
 use Rattle.basv_top.specs.Ending.{Ending, Refused, WriteFault, Ran, long_input}

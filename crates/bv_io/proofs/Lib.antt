@@ -2,3 +2,4 @@ mod FilesLemmas
 mod MemShelfLemmas
 mod Fieldless
 pub mod Loops
+pub mod ByteWrites

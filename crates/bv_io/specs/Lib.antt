@@ -1,6 +1,7 @@
 pub mod Shelf
 pub mod Sink
 pub mod Log
+pub mod Writes
 pub mod Calls
 pub mod Files
 pub mod Answers

@@ -3,7 +3,7 @@ use Rattle.bv_io.specs.Sink.{WritesPart}
 use Rattle.bv_io.specs.declared.sink.SinkFault.{SinkFault}
 use Rattle.bv_io.specs.Log.{Event, NotWritten, write_event}
 use Rattle.arm2_machine.specs.Step.{bytes_of}
-use Rattle.arm2_machine.specs.Writes.{byte_writes, FailsAtByte}
+use Rattle.bv_io.specs.Writes.{byte_writes, FailsAtByte}
 use Rattle.arm2_machine.proofs.Outputs.{second_of_two}
 use Rattle.arm2_machine.proofs.board.write.Goals as goal
 

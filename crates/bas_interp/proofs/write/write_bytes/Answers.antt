@@ -15,7 +15,7 @@ returns-in-Err g c =
     (second_fails (take i bytes) (b ∷ []) _ _ _ _ _ _ _ _ _ c.bytes.invariant
     (record {
       part = c.in-Err.ensures.part;
-      at_byte = record { accepted = []; byte = b; rest = []; split = refl; logged = c.in-Err.ensures.logged };
+      at_byte = record { accepted = []; byte = b; rest = []; split = refl; log = c.in-Err.ensures.logged };
       cause = c.in-Err.ensures.failed;
       faults = c.in-Err.ensures.faults;
     }))

@@ -3,9 +3,10 @@ use Rattle.bv_run.specs.Runs.{Goes, Ended, Over, Broken, run, output_so_far}
 use Rattle.bv_io.specs.Sink.{WritesPart}
 use Rattle.bv_io.proofs.Loops.{so_far_starts, so_far_goes, so_far_stops, so_far_ends, so_far_faults}
 use Rattle.arm2_machine.specs.Step.{board_step, bytes_of}
-use Rattle.arm2_machine.specs.Writes.{byte_writes}
+use Rattle.bv_io.specs.Writes.{byte_writes}
 use Rattle.arm2_machine.proofs.Stretches.{so_far_plainly}
-use Rattle.arm2_machine.proofs.Logs.{byte_writes-append, output_after, output_at_stop, fails_at_byte}
+use Rattle.bv_io.proofs.ByteWrites.{byte_writes-append}
+use Rattle.arm2_machine.proofs.Logs.{output_after, output_at_stop, fails_at_byte}
 use Rattle.bv_run.proofs.RunLaws.{run-zero}
 use Rattle.arm2_machine.proofs.board.Board.run.Goals as goal
 

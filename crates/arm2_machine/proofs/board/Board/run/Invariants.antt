@@ -2,7 +2,7 @@ use Rattle.std.proofs.Common.{◌≡◌, ◌-◌, ◌≤◌, []}
 use Rattle.bv_io.proofs.Loops.{IsSoFar}
 use Rattle.bv_run.specs.Runs.{run, output_so_far}
 use Rattle.arm2_machine.specs.Step.{board_step}
-use Rattle.arm2_machine.specs.Writes.{byte_writes}
+use Rattle.bv_io.specs.Writes.{byte_writes}
 use Rattle.arm2_machine.proofs.board.Board.run.Given as goal
 
 -- The steps are counted from 0 on, and added at the end.

@@ -1,4 +1,4 @@
--- The writes of a run's output: one for each byte. This project's own.
+-- Bytes that are handed to a sink, each by a write of its own. This project's own.
 use Rattle.std.specs.Prelude.{◌≡◌, ℕ, List, [], ◌∷◌, ◌++◌}
 use Rattle.bv_io.specs.Log.{Event, Wrote, NotWritten}
 
