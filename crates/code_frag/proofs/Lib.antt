@@ -12,3 +12,4 @@ mod Example
 pub mod JoinLaws
 mod ExampleFrame
 pub mod Kept
+pub mod RegionLaws

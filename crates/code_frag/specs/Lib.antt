@@ -1,5 +1,6 @@
 -- The definitions of fragments: the routine language, what a routine owes, rows of steps, and words.
 pub mod Places
+pub mod Regions
 pub mod Language
 pub mod Instructions
 pub mod Demands
