@@ -3,3 +3,4 @@ pub mod Effects
 pub mod Machine
 pub mod Heights
 pub mod WellFormed
+pub mod Coded

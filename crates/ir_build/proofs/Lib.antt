@@ -13,4 +13,6 @@ pub mod Agreement
 pub mod Weights
 mod Reaching
 mod LaidOut
+mod Residents
+mod Coded
 mod CallExamples

@@ -1,5 +1,6 @@
 //! The laws of a program's flat code.
 ghost use Rattle.std.specs.Prelude.{◌≡◌, ℕ, List};
+ghost use Rattle.bas_ir.specs.Coded.{AllHaveCode, AtMostOneText};
 ghost use Rattle.bas_ir.specs.Machine.{flat_run, flat_run_within};
 ghost use Rattle.bas_ir.specs.WellFormed.{IsLaidOut};
 ghost use Rattle.bas_sem.specs.Meaning.{source_run};
@@ -27,4 +28,10 @@ pub fn simple_items_light(prog: &Prog)
 /// The tables of a program's flat code fit its operations: marks, starts, what is pending, and where each leads.
 pub fn code_laid_out(prog: &Prog)
     ensures { IsLaidOut (flat_code prog.now) }
+{}
+
+/// Each operation of a program's flat code has machine code, and at most one string is pending before it.
+pub fn all_have_code(prog: &Prog)
+    ensures has_code { AllHaveCode (flat_code prog.now) }
+    ensures one_text { AtMostOneText (flat_code prog.now) }
 {}
