@@ -88,9 +88,9 @@ module _ (prog : Prog) (line : ℕ) where
       (expr_coded x (expr_code prog line y ++ o.Binary op line ∷ ops) (expr_coded y (o.Binary op line ∷ ops) (tt, coded)))
   expr_coded _ ops coded = (tt, (tt, coded))
 
-  text_coded : (x : StrExpr) (ops : List Op) → AreCoded ops → AreCoded (text_code x ++ o.WriteText ∷ ops)
+  text_coded : (x : StrExpr) (ops : List Op) → AreCoded ops → AreCoded (text_code x ++ ops)
   text_coded (str.Literal number) ops coded = (tt, (tt, coded))
-  text_coded _ ops coded = (tt, (tt, (tt, coded)))
+  text_coded _ ops coded = (tt, coded)
 
   updated_coded : (op : BinaryOp) (cell : Cell) (x : NumExpr) → IsOneCell cell → AreCoded (read_op line cell ∷ (expr_code prog line x ++ o.Binary op line ∷ store_op cell ∷ []))
   updated_coded op cell x one =

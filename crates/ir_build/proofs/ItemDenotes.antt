@@ -105,7 +105,7 @@ module _ (prog : Prog) (level : Level) (next : ℕ) where
   expr_den line _ ops p s = refl
 
   text_den : (line : ℕ) (x : StrExpr) (ops : List Op) (p : Pending) (s : State)
-      → does (text_code x ++ ops) p s ≡ (evaluate_text prog (calls_at prog (flat_code prog) level) line x >>= (λ v. does ops (text_pushed v p))) s
+      → does (text_code x ++ ops) p s ≡ (evaluate_text prog (calls_at prog (flat_code prog) level) line x >>= (λ v. does (o.WriteText ∷ ops) (text_pushed v p))) s
   text_den line (str.Literal number) ops p s = refl
   text_den line _ ops p s = refl
 
@@ -165,7 +165,7 @@ module _ (prog : Prog) (level : Level) (next : ℕ) where
       written_den line x (o.WriteNumber padded format) (out.Number padded format) _ (print prog (calls_at prog (flat_code prog) level) line padded true parts) s
       (λ v t. refl) (print_den line padded true parts)
   print_den line padded new_line (prints.Text x ∷ parts) s =
-      text_den line x (o.WriteText ∷ print_code prog line padded true parts) nothing s
+      text_den line x (print_code prog line padded true parts) nothing s
       ∙ bind_then (evaluate_text prog (calls_at prog (flat_code prog) level) line x)
       (λ v. write (out.Text v) >> print prog (calls_at prog (flat_code prog) level) line padded true parts) onwards
       (λ v. does (o.WriteText ∷ print_code prog line padded true parts) (text_pushed v nothing)) s

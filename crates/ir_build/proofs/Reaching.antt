@@ -137,8 +137,8 @@ module _ (prog : Prog) where
     then_reach x op ops a b = append_reach (expr_code prog line x) (op ∷ ops) (expr_reach x) (a, b)
 
     text_reach : (x : StrExpr) → AllReach (text_code x)
-    text_reach (str.Literal number) = (tt, tt)
-    text_reach _ = (tt, (tt, tt))
+    text_reach (str.Literal number) = (tt, (tt, tt))
+    text_reach _ = (tt, tt)
 
     assignment_reach : (a : Assignment) → AllReach (assignment_code prog line a)
     assignment_reach (assigns.Number (target.Variable (var.Simple name)) x) = then_reach x (store_op (integer_cell prog.names name)) [] (store_reach (integer_cell prog.names name)) tt
@@ -156,7 +156,7 @@ module _ (prog : Prog) where
     print_reach padded new_line (prints.Semicolon ∷ parts) = print_reach false false parts
     print_reach padded new_line (prints.NewLine ∷ parts) = (tt, print_reach padded true parts)
     print_reach padded new_line (prints.Number format x ∷ parts) = then_reach x (o.WriteNumber padded format) _ tt (print_reach padded true parts)
-    print_reach padded new_line (prints.Text x ∷ parts) = append_reach (text_code x) (o.WriteText ∷ print_code prog line padded true parts) (text_reach x) (tt, print_reach padded true parts)
+    print_reach padded new_line (prints.Text x ∷ parts) = append_reach (text_code x) (print_code prog line padded true parts) (text_reach x) (print_reach padded true parts)
     print_reach padded new_line (prints.Spaces x ∷ parts) = then_reach x (o.Write pieces.Spaces) _ tt (print_reach padded true parts)
     print_reach padded new_line (prints.Tab x ∷ parts) = then_reach x (o.Write pieces.Tab) _ tt (print_reach padded true parts)
 

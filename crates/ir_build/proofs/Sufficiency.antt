@@ -30,7 +30,7 @@ use Rattle.bas_ir.specs.declared.ir.Height.{Height}
 use Rattle.bas_ir.specs.declared.op.Op.{Op}
 use Rattle.bas_ir.specs.declared.op.Op.TheVariants as o
 use Rattle.bas_ir.specs.declared.op.Piece.TheVariants as pieces
-use Rattle.bas_ir.specs.Heights.{Suffices, one_more, one_text_more, empty_height}
+use Rattle.bas_ir.specs.Heights.{Suffices, one_more, empty_height}
 use Rattle.bas_store.specs.Cells.{Cell, Resident, Integer, integer_cell}
 use Rattle.bas_sem.specs.Places.{Row, line_place, else_place}
 use Rattle.ir_build.specs.Code.{unary_code, read_op, store_op, expr_code, text_code, assignment_code, go_op, flow_op, print_code, vdu_code, output_code, statement_code, item_code, or_jump, row_code}
@@ -73,7 +73,7 @@ module _ (prog : Prog) (line : ℕ) where
       (expr_suffices x (expr_code prog line y ++ o.Binary op line ∷ ops) h (expr_suffices y (o.Binary op line ∷ ops) (one_more h) suffices))
   expr_suffices _ ops h suffices = suffices
 
-  text_suffices : (x : StrExpr) (ops : List Op) (h : Height) → Enough ops (one_text_more h) → Enough (text_code x ++ ops) h
+  text_suffices : (x : StrExpr) (ops : List Op) (h : Height) → Enough ops h → Enough (text_code x ++ ops) h
   text_suffices (str.Literal number) ops h suffices = suffices
   text_suffices _ ops h suffices = suffices
 
@@ -107,7 +107,7 @@ module _ (prog : Prog) (line : ℕ) where
   print_suffices padded new_line (prints.NewLine ∷ parts) = print_suffices padded true parts
   print_suffices padded new_line (prints.Number format x ∷ parts) =
       expr_suffices x (o.WriteNumber padded format ∷ print_code prog line padded true parts) empty_height (print_suffices padded true parts)
-  print_suffices padded new_line (prints.Text x ∷ parts) = text_suffices x (o.WriteText ∷ print_code prog line padded true parts) empty_height (print_suffices padded true parts)
+  print_suffices padded new_line (prints.Text x ∷ parts) = text_suffices x (print_code prog line padded true parts) empty_height (print_suffices padded true parts)
   print_suffices padded new_line (prints.Spaces x ∷ parts) =
       expr_suffices x (o.Write pieces.Spaces ∷ print_code prog line padded true parts) empty_height (print_suffices padded true parts)
   print_suffices padded new_line (prints.Tab x ∷ parts) = expr_suffices x (o.Write pieces.Tab ∷ print_code prog line padded true parts) empty_height (print_suffices padded true parts)

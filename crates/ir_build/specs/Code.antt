@@ -69,10 +69,10 @@ expr_code prog line (num.Unary' op _ (held x _)) = expr_code prog line x ++ unar
 expr_code prog line (num.Binary' op _ (held x _) _ (held y _)) = expr_code prog line x ++ (expr_code prog line y ++ o.Binary op line ∷ [])
 expr_code prog line _ = o.End ∷ o.Push (pos 0) ∷ []
 
--- and one string more
+-- A string is pushed and written. A form that has no meaning yet ends the run, and names no text.
 abbrev pub text_code : StrExpr → List Op
-text_code (str.Literal number) = o.PushText number ∷ []
-text_code _ = o.End ∷ o.PushText 0 ∷ []
+text_code (str.Literal number) = o.PushText number ∷ o.WriteText ∷ []
+text_code _ = o.End ∷ []
 
 -- LET, `+=` and `-=`
 abbrev pub assignment_code : Prog → ℕ → Assignment → List Op
@@ -107,7 +107,7 @@ print_code prog line padded new_line (prints.Semicolon ∷ parts) = print_code p
 print_code prog line padded new_line (prints.NewLine ∷ parts) = o.WriteMark marks.NewLine ∷ print_code prog line padded true parts
 print_code prog line padded new_line (prints.Number format x ∷ parts) =
     expr_code prog line x ++ o.WriteNumber padded format ∷ print_code prog line padded true parts
-print_code prog line padded new_line (prints.Text x ∷ parts) = text_code x ++ o.WriteText ∷ print_code prog line padded true parts
+print_code prog line padded new_line (prints.Text x ∷ parts) = text_code x ++ print_code prog line padded true parts
 print_code prog line padded new_line (prints.Spaces x ∷ parts) =
     expr_code prog line x ++ o.Write pieces.Spaces ∷ print_code prog line padded true parts
 print_code prog line padded new_line (prints.Tab x ∷ parts) = expr_code prog line x ++ o.Write pieces.Tab ∷ print_code prog line padded true parts

@@ -112,15 +112,15 @@ pub fn push_expr(prog: &Prog, line: u16, x: &NumExpr, ops: &mut Items<Op>) -> Re
     }
 }
 
-/// Adds the code of an expression of a string.
+/// Adds the code that writes an expression of a string.
 pub fn push_text(x: &StrExpr, ops: &mut Items<Op>) -> Result<(), NoMemory>
     ensures { OnOk result (ops.new ≡ ops.old ++ spec.text_code x.now) }
 {
     match x {
-        StrExpr::Literal(number) => put(ops, Op::PushText(*number)),
-        _ => {
-            put(ops, Op::End)?;
-            put(ops, Op::PushText(0))
+        StrExpr::Literal(number) => {
+            put(ops, Op::PushText(*number))?;
+            put(ops, Op::WriteText)
         }
+        _ => put(ops, Op::End),
     }
 }

@@ -67,10 +67,7 @@ fn push_print_part(
             let format = *format;
             push_written(prog, line, x, Op::WriteNumber { padded, format }, ops)?;
         }
-        PrintPart::Text(x) => {
-            push_text(x, ops)?;
-            put(ops, Op::WriteText)?;
-        }
+        PrintPart::Text(x) => push_text(x, ops)?,
         PrintPart::Spaces(x) => push_written(prog, line, x, Op::Write(Piece::Spaces), ops)?,
         PrintPart::Tab(x) => push_written(prog, line, x, Op::Write(Piece::Tab), ops)?,
     }
