@@ -15,4 +15,9 @@ mod Reaching
 mod LaidOut
 mod Residents
 mod Coded
+mod Fits
+mod FitExpressions
+mod FitStatements
+mod FitLines
+mod CodeWellFormed
 mod CallExamples

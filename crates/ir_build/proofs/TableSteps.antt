@@ -59,7 +59,7 @@ with_both tables (code ∷ one) two =
     with_more tables code (one ++ two) ∙ with_both (with_codes tables (code ∷ [])) one two ∙ ap (λ t. with_codes t two) (sym (with_more tables code one))
 
 -- the codes of rows in two parts
-codes_both : (prog : Prog) (place : ℕ) (one two : List Row) → codes_from prog place (one ++ two) ≡ codes_from prog place one ++ codes_from prog (place + length one) two
+pub codes_both : (prog : Prog) (place : ℕ) (one two : List Row) → codes_from prog place (one ++ two) ≡ codes_from prog place one ++ codes_from prog (place + length one) two
 codes_both prog place [] two = ap (λ n. codes_from prog n two) (omega arith)
 codes_both prog place (row ∷ one) two =
     ap (λ l. row_code prog place row ∷ l)

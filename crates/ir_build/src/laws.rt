@@ -2,7 +2,8 @@
 ghost use Rattle.std.specs.Prelude.{◌≡◌, ℕ, List};
 ghost use Rattle.bas_ir.specs.Coded.{AllHaveCode, AtMostOneText};
 ghost use Rattle.bas_ir.specs.Machine.{flat_run, flat_run_within};
-ghost use Rattle.bas_ir.specs.WellFormed.{IsLaidOut};
+ghost use Rattle.bas_ast.specs.WellFormed.{WellFormed};
+ghost use Rattle.bas_ir.specs.WellFormed.{IsLaidOut, IsWellFormed};
 ghost use Rattle.bas_sem.specs.Meaning.{source_run};
 ghost use Rattle.bv_run.specs.Outcome.{RunsAgree};
 ghost use Rattle.ir_build.specs.Code.{flat_code};
@@ -34,4 +35,11 @@ pub fn code_laid_out(prog: &Prog)
 pub fn all_have_code(prog: &Prog)
     ensures has_code { AllHaveCode (flat_code prog.now) }
     ensures one_text { AtMostOneText (flat_code prog.now) }
+{}
+
+/// The flat code of a well-formed program is well formed: its tables fit, what it names is there, little is pending, and its
+/// machine code is short.
+pub fn code_well_formed(prog: &Prog)
+    requires { WellFormed prog.now }
+    ensures { IsWellFormed (flat_code prog.now) }
 {}

@@ -14,5 +14,8 @@ mod program;
 mod statements;
 mod tables;
 
-pub use laws::{all_have_code, code_laid_out, flat_runs_agree, simple_items_light, steps_alike};
+pub use laws::{
+    all_have_code, code_laid_out, code_well_formed, flat_runs_agree, simple_items_light,
+    steps_alike,
+};
 pub use program::build;

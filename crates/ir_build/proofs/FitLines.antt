@@ -1,0 +1,142 @@
+-- The code of a line's items fits the terminals that spell them out.
+use Rattle.std.proofs.Common.{◌≡◌, ℕ, ◌+◌, ◌≤◌, List, [], ◌∷◌, ◌++◌, refl, length, length-append, map, lit≤, arith}
+use Rattle.bas_ast.specs.declared.expressions.NumExpr.{NumExpr}
+use Rattle.bas_ast.specs.declared.keywords.Keyword.TheVariants as word
+use Rattle.bas_ast.specs.declared.lines.Item.{Item}
+use Rattle.bas_ast.specs.declared.lines.Item.TheVariants as item
+use Rattle.bas_ast.specs.declared.program.Prog.{Prog}
+use Rattle.bas_ast.specs.declared.terminals.Terminal.{Terminal}
+use Rattle.bas_ast.specs.declared.terminals.Terminal.TheVariants as t
+use Rattle.bas_ast.specs.Expressions.{IsNum}
+use Rattle.bas_ast.specs.Lines as l
+use Rattle.bas_ast.specs.Lines.{Here, IsItems, IsBranch, IsRun}
+use Rattle.bas_ir.specs.declared.op.Op.{Op}
+use Rattle.bas_ir.specs.declared.op.Op.TheVariants as o
+use Rattle.bas_sem.specs.Places.{else_place}
+use Rattle.ir_build.specs.Code.{expr_code, item_code, or_jump, codes_from, joined}
+use Rattle.ir_build.proofs.Fits.{worth, worth_all, worth_append, cost, cost_append, pushes, AllKnown, AllThere, append_there, Fits, then_ops, after, front_known, back_known}
+use Rattle.ir_build.proofs.FitExpressions.{num_fits}
+use Rattle.ir_build.proofs.FitStatements.{goto_fits, statement_fits}
+
+-- no code pushes more values than this
+abbrev pub AllLow : ℕ → List (List Op) → Type 0
+AllLow most [] = Unit {0}
+AllLow most (c ∷ cs) = (pushes c ≤ most) × AllLow most cs
+
+pub low_more : (few most : ℕ) (cs : List (List Op)) → few ≤ most → AllLow few cs → AllLow most cs
+low_more few most [] less low = tt
+low_more few most (c ∷ cs) less low = (omega (arith, less, low.0), low_more few most cs less low.1)
+
+module _ (prog : Prog) where
+  -- The code of the items of a line. DATA, of which a line has at most one, is worth nothing, and costs 16.
+  pub record LineFits (a : List Terminal) (cs : List (List Op)) : Type 0 where
+    pub there : AllThere prog (joined cs)
+    pub cheap : cost (joined cs) ≤ worth_all a + 16
+    pub low : AllLow (length a) cs
+
+  no_items_fit : LineFits [] []
+  no_items_fit = record { there = tt; cheap = omega arith; low = tt }
+
+  -- with a terminal before
+  line_after : {a : List Terminal} {cs : List (List Op)} (c : Terminal) → LineFits a cs → LineFits (c ∷ a) cs
+  line_after {a} {cs} c fits = record {
+    there = fits.there;
+    cheap = omega (arith, fits.cheap);
+    low = low_more (length a) (length (c ∷ a)) cs (omega arith) fits.low;
+  }
+
+  -- with terminals before
+  line_later : (b : List Terminal) {a : List Terminal} {cs : List (List Op)} → LineFits a cs → LineFits (b ++ a) cs
+  line_later [] fits = fits
+  line_later (c ∷ b) fits = line_after c (line_later b fits)
+
+  -- terminals without an item
+  spare_fits : (a : List Terminal) → LineFits a []
+  spare_fits a = record { there = tt; cheap = omega arith; low = tt }
+
+  jump_fits : (a : List Terminal) (next : ℕ) (ops : List Op) → Fits prog 0 8 a ops → Fits prog 0 0 a (or_jump next ops)
+  jump_fits a next [] fits = record { there = (tt, tt); cheap = omega (arith, fits.cheap); low = omega arith }
+  jump_fits a next (op ∷ ops) fits = record { there = fits.there; cheap = omega (arith, fits.cheap); low = fits.low }
+
+  -- with an item before
+  item_before : {a r : List Terminal} {ops : List Op} {cs : List (List Op)} (next : ℕ) → Fits prog 0 8 a ops → LineFits r cs → LineFits (a ++ r) (or_jump next ops ∷ cs)
+  item_before {a} {r} {ops} {cs} next own rest =
+      let first = jump_fits a next ops own in
+      record {
+        there = append_there prog (or_jump next ops) (joined cs) first.there rest.there;
+        cheap = omega (arith, first.cheap, rest.cheap, cost_append (or_jump next ops) (joined cs), worth_append a r);
+        low = (omega (arith, first.low, length-append a r), low_more (length r) (length (a ++ r)) cs (omega (arith, length-append a r)) rest.low);
+      }
+
+  -- with an item before that ends the run
+  end_before : {a : List Terminal} {cs : List (List Op)} (c : Terminal) (next : ℕ) → worth c ≡ 96 → LineFits a cs → LineFits (c ∷ a) (or_jump next (o.End ∷ []) ∷ cs)
+  end_before {a} {cs} c next worthy rest =
+      let own : Fits prog 0 8 (c ∷ []) (o.End ∷ []) = record { there = (tt, tt); cheap = omega (arith, worthy); low = lit≤ tt } in
+      item_before next own rest
+
+  module _ (line : ℕ) where
+    -- the code of items, of which the first is at a place
+    abbrev line_codes : ℕ → List Item → List (List Op)
+    line_codes place xs = codes_from prog place (map (λ i. record { line = line; item = i }) xs)
+
+    if_fits : (a : List Terminal) (x : NumExpr) (place : ℕ) → IsNum 1 a x → AllKnown prog a → Fits prog 0 8 (t.Keyword word.If ∷ a) (item_code prog place line (item.If x))
+    if_fits a x place d known =
+        let value : Fits prog 0 144 (t.Keyword word.If ∷ a) (expr_code prog line x) = after (t.Keyword word.If) (num_fits prog line 1 a x d known) (lit≤ tt) in
+        then_ops (o.GoIfZero (else_place prog place) ∷ []) value (tt, tt) refl (lit≤ tt)
+
+    else_fits : (place : ℕ) → Fits prog 0 8 (t.Keyword word.Else ∷ []) (item_code prog place line item.Else)
+    else_fits place = record { there = (tt, tt); cheap = lit≤ tt; low = lit≤ tt }
+
+    data_fits : (n place : ℕ) → LineFits (t.Keyword word.Data ∷ t.Tail n ∷ []) (line_codes place (item.Data n ∷ []))
+    data_fits n place = record { there = (tt, tt); cheap = lit≤ tt; low = (lit≤ tt, tt) }
+
+    remark_fits : (n place : ℕ) → LineFits (t.Keyword word.Rem ∷ t.Tail n ∷ []) (line_codes place (item.Remark ∷ []))
+    remark_fits n place = record { there = (tt, tt); cheap = lit≤ tt; low = (lit≤ tt, tt) }
+
+    mutual
+      items_fit : (h : Here) (a : List Terminal) (xs : List Item) → IsItems h a xs → AllKnown prog a → (place : ℕ) → LineFits a (line_codes place xs)
+      items_fit h a xs (l.no_items _) known place = no_items_fit
+      items_fit h a xs (l.colon _ r _ d) known place = line_after t.Colon (items_fit _ r xs d known.1 place)
+      items_fit h a xs (l.plain _ b r x ys k k' d d') known place =
+          item_before (place + 1) (statement_fits prog line b x d (front_known prog b r known)) (items_fit _ r ys d' (back_known prog b r known) (place + 1))
+      items_fit h a xs (l.if_bare _ b r x ys k d d') known place =
+          item_before (place + 1) (if_fits b x place d (front_known prog b r known.1)) (items_fit _ r ys d' (back_known prog b r known.1) (place + 1))
+      items_fit h a xs (l.if_then _ b r x ys k d k' d') known place =
+          item_before (place + 1) (if_fits b x place d (front_known prog b (t.Keyword word.Then ∷ r) known.1))
+          (line_after (t.Keyword word.Then) (branch_fits r ys d' (back_known prog b (t.Keyword word.Then ∷ r) known.1).1 (place + 1)))
+      items_fit h a xs (l.if_block _ b x k d) known place = end_before (t.Keyword word.If) (place + 1) refl (spare_fits (b ++ t.Keyword word.Then ∷ []))
+      items_fit h a xs (l.else _ r ys k d) known place = item_before (place + 1) (else_fits place) (branch_fits r ys d known.1 (place + 1))
+      items_fit h a xs (l.on_goto _ b b' r x ns ys k d k' d') known place =
+          let rest = items_fit _ r ys d' (back_known prog b' r (back_known prog b (t.Keyword word.Goto ∷ (b' ++ r)) known.1).1) (place + 1) in
+          end_before (t.Keyword word.On) (place + 1) refl (line_later b (line_after (t.Keyword word.Goto) (line_later b' rest)))
+      items_fit h a xs (l.on_gosub _ b b' r x ns ys k d k' d') known place =
+          let rest = items_fit _ r ys d' (back_known prog b' r (back_known prog b (t.Keyword word.Gosub ∷ (b' ++ r)) known.1).1) (place + 1) in
+          end_before (t.Keyword word.On) (place + 1) refl (line_later b (line_after (t.Keyword word.Gosub) (line_later b' rest)))
+      items_fit h a xs (l.case _ b r x k d k') known place = end_before (t.Keyword word.Case) (place + 1) refl (spare_fits (b ++ t.Keyword word.Of ∷ r))
+      items_fit h a xs (l.repeat _ r ys k d) known place = end_before (t.Keyword word.Repeat) (place + 1) refl (items_fit _ r ys d known.1 (place + 1))
+      items_fit h a xs (l.on_error _ r ys k d) known place =
+          end_before (t.Keyword word.On) (place + 1) refl (line_after (t.Keyword word.Error) (items_fit _ r ys d known.1.1 (place + 1)))
+      items_fit h a xs (l.on_error_local _ r ys k d) known place =
+          end_before (t.Keyword word.On) (place + 1) refl
+          (line_after (t.Keyword word.Error) (line_after (t.Keyword word.Local) (items_fit _ r ys d known.1.1.1 (place + 1))))
+      items_fit h a xs (l.data_items _ n k) known place = data_fits n place
+      items_fit h a xs (l.remark _ n k) known place = remark_fits n place
+      items_fit h a xs (l.begin_assembly _ k) known place = end_before t.OpenSquare (place + 1) refl no_items_fit
+
+      branch_fits : (a : List Terminal) (xs : List Item) → IsBranch a xs → AllKnown prog a → (place : ℕ) → LineFits a (line_codes place xs)
+      branch_fits a xs (l.branch_items _ _ d) known place = items_fit _ a xs d known place
+      branch_fits a xs (l.branch_line n r ys d) known place =
+          item_before (place + 1) (goto_fits prog line (t.LineRef n) [] n refl) (items_fit _ r ys d known.1 (place + 1))
+
+    pub run_fits : (a : List Terminal) (xs : List Item) → IsRun a xs → AllKnown prog a → (place : ℕ) → LineFits a (line_codes place xs)
+    run_fits a xs (l.items _ _ d) known place = items_fit _ a xs d known place
+    run_fits a xs (l.def c f r ys k d) known place = end_before (t.Keyword word.Def) (place + 1) refl (line_after c (items_fit _ r ys d known.1.1 (place + 1)))
+    run_fits a xs (l.def_open c f b r fs ys k k' d) known place =
+        end_before (t.Keyword word.Def) (place + 1) refl (line_after c (line_later b (items_fit _ r ys d (back_known prog b r known.1.1) (place + 1))))
+    run_fits a xs (l.when b r vs ys k d) known place =
+        end_before (t.Keyword word.When) (place + 1) refl (line_later b (items_fit _ r ys d (back_known prog b r known.1) (place + 1)))
+    run_fits a xs (l.otherwise r ys d) known place = end_before (t.Keyword word.Otherwise) (place + 1) refl (items_fit _ r ys d known.1 (place + 1))
+    run_fits a xs (l.block_else r ys d) known place = end_before (t.Keyword word.BlockElse) (place + 1) refl (items_fit _ r ys d known.1 (place + 1))
+    run_fits a xs (l.end_if r ys d) known place = end_before (t.Keyword word.EndIf) (place + 1) refl (items_fit _ r ys d known.1 (place + 1))
+    run_fits a xs (l.end_case r ys d) known place = end_before (t.Keyword word.EndCase) (place + 1) refl (items_fit _ r ys d known.1 (place + 1))
+    run_fits a xs (l.end_assembly r ys d) known place = end_before t.CloseSquare (place + 1) refl (items_fit _ r ys d known.1 (place + 1))

@@ -1,0 +1,224 @@
+-- The code of a statement fits the terminals that spell it out, and leaves room for a jump.
+use Rattle.std.proofs.Common.{◌≡◌, ℕ, ◌≤◌, List, [], ◌∷◌, ◌++◌, Option, None, Some, refl, subst, lit≤, arith}
+use Rattle.std.specs.Prelude.{Bool, true, false}
+use Rattle.bas_ast.specs.declared.expressions.BinaryOp.{BinaryOp}
+use Rattle.bas_ast.specs.declared.expressions.BinaryOp.TheVariants as op
+use Rattle.bas_ast.specs.declared.expressions.NumExpr.{NumExpr}
+use Rattle.bas_ast.specs.declared.expressions.NumberFormat.TheVariants as format
+use Rattle.bas_ast.specs.declared.keywords.Keyword.{Keyword}
+use Rattle.bas_ast.specs.declared.keywords.Keyword.TheVariants as word
+use Rattle.bas_ast.specs.declared.program.Prog.{Prog}
+use Rattle.bas_ast.specs.declared.statements.Assignment.{Assignment}
+use Rattle.bas_ast.specs.declared.statements.Assignment.TheVariants as assignment
+use Rattle.bas_ast.specs.declared.statements.Flow.TheVariants as flow
+use Rattle.bas_ast.specs.declared.statements.PrintPart.{PrintPart}
+use Rattle.bas_ast.specs.declared.statements.Stmt.{Stmt}
+use Rattle.bas_ast.specs.declared.statements.Stmt.TheVariants as stmt
+use Rattle.bas_ast.specs.declared.statements.VduPart.{VduPart}
+use Rattle.bas_ast.specs.declared.targets.NumTarget.{NumTarget}
+use Rattle.bas_ast.specs.declared.terminals.Terminal.{Terminal}
+use Rattle.bas_ast.specs.declared.terminals.Terminal.TheVariants as t
+use Rattle.bas_ast.specs.Expressions as e
+use Rattle.bas_ast.specs.Expressions.{IsNum, IsStr}
+use Rattle.bas_ast.specs.Operands as g
+use Rattle.bas_ast.specs.Operands.{IsNumTarget, Slot, ANumber, Values, ValueOf, IsOperands, IsList}
+use Rattle.bas_ast.specs.Statements as s
+use Rattle.bas_ast.specs.Statements.{Form, Takes, Lists, OwnForm, form, equals, IsPrint, IsVdu, IsAssignment, IsStmt}
+use Rattle.bas_ir.specs.declared.op.Mark.TheVariants as marks
+use Rattle.bas_ir.specs.declared.op.Op.{Op}
+use Rattle.bas_ir.specs.declared.op.Op.TheVariants as o
+use Rattle.bas_ir.specs.declared.op.Piece.TheVariants as pieces
+use Rattle.bas_sem.specs.Places.{line_place}
+use Rattle.bas_store.specs.Cells.{Cell, integer_cell}
+use Rattle.ir_build.specs.Code.{read_op, store_op, expr_code, assignment_code, go_op, finish_code, print_code, vdu_code, statement_code}
+use Rattle.ir_build.proofs.Fits.{worth, cost, pushes, AllKnown, AllThere, Fits, around, beside, then_ops, after, before, stops, stops_between, front_known, back_known}
+use Rattle.ir_build.proofs.FitExpressions.{IsCell, cell_of, read_fits, store_there, store_cost, store_pushes, num_fits, text_fits}
+
+module _ (prog : Prog) (line : ℕ) where
+  -- less is spared
+  fewer : {a : List Terminal} {ops : List Op} → Fits prog 0 64 a ops → Fits prog 0 8 a ops
+  fewer {a} {ops} fits = record { there = fits.there; cheap = omega (arith, fits.cheap); low = fits.low }
+
+  ends : (c : Terminal) (a : List Terminal) → 88 ≤ worth c → Fits prog 0 8 (c ∷ a) (o.End ∷ [])
+  ends c a worthy = fewer (stops c a worthy)
+
+  ends_between : (a : List Terminal) (c : Terminal) (b : List Terminal) → 88 ≤ worth c → Fits prog 0 8 (a ++ c ∷ b) (o.End ∷ [])
+  ends_between a c b worthy = fewer (stops_between a c b worthy)
+
+  -- ---- assignments
+
+  stored_fits : (n : ℕ) (b : List Terminal) (cell : Cell) (x : NumExpr) → IsCell prog line cell → IsNum 1 b x → AllKnown prog b
+      → Fits prog 0 8 (t.IntName n ∷ equals ∷ b) (expr_code prog line x ++ store_op cell ∷ [])
+  stored_fits n b cell x known d all =
+      let value : Fits prog 0 144 (equals ∷ b) (expr_code prog line x) = after equals (num_fits prog line 1 b x d all) (lit≤ tt) in
+      then_ops (store_op cell ∷ []) (after {D = 0} {S = 240} (t.IntName n) value (lit≤ tt)) (store_there prog line cell known) (store_pushes prog line cell)
+      (omega (arith, store_cost prog line cell))
+
+  updated_fits : (op : BinaryOp) (n : ℕ) (c : Terminal) (b : List Terminal) (cell : Cell) (x : NumExpr) → worth c ≡ 96 → IsCell prog line cell → IsNum 1 b x → AllKnown prog b
+      → Fits prog 0 8 (t.IntName n ∷ c ∷ b) (read_op line cell ∷ (expr_code prog line x ++ o.Binary op line ∷ store_op cell ∷ []))
+  updated_fits op n c b cell x worthy known d all =
+      let value : Fits prog 0 144 (c ∷ b) (expr_code prog line x) = after c (num_fits prog line 1 b x d all) (omega (arith, worthy)) in
+      let both : Fits prog 0 192 (t.IntName n ∷ c ∷ b) (read_op line cell ∷ expr_code prog line x) = beside (read_fits prog line n cell known) value (lit≤ tt) in
+      then_ops (o.Binary op line ∷ store_op cell ∷ []) both (tt, store_there prog line cell known) (binary_pushes (store_pushes prog line cell))
+      (omega (arith, store_cost prog line cell))
+    where
+      binary_pushes : pushes (store_op cell ∷ []) ≡ 0 → pushes (o.Binary op line ∷ store_op cell ∷ []) ≡ 0
+      binary_pushes is = omega (arith, is)
+
+  assign_fits : (a b : List Terminal) (v : NumTarget) (x : NumExpr) → IsNumTarget a v → IsNum 1 b x → AllKnown prog (a ++ equals ∷ b)
+      → Fits prog 0 8 (a ++ equals ∷ b) (assignment_code prog line (assignment.Number v x))
+  assign_fits a b v x (g.to_variable _ w (e.simple n)) d known = stored_fits n b (integer_cell prog.names n) x (cell_of prog line n known.0) d known.1.1
+  assign_fits a b v x (g.to_variable _ w (e.element n a' xs k)) d known = ends_between a equals b (lit≤ tt)
+  assign_fits a b v x (g.to_memory w a' y k) d known = ends_between a equals b (lit≤ tt)
+  assign_fits a b v x (g.to_memory_sum a' b' u w y k k') d known = ends_between a equals b (lit≤ tt)
+
+  add_fits : (a b : List Terminal) (v : NumTarget) (x : NumExpr) → IsNumTarget a v → IsNum 1 b x → AllKnown prog (a ++ t.PlusEquals ∷ b)
+      → Fits prog 0 8 (a ++ t.PlusEquals ∷ b) (assignment_code prog line (assignment.Add v x))
+  add_fits a b v x (g.to_variable _ w (e.simple n)) d known =
+      updated_fits op.Add n t.PlusEquals b (integer_cell prog.names n) x refl (cell_of prog line n known.0) d known.1.1
+  add_fits a b v x (g.to_variable _ w (e.element n a' xs k)) d known = ends_between a t.PlusEquals b (lit≤ tt)
+  add_fits a b v x (g.to_memory w a' y k) d known = ends_between a t.PlusEquals b (lit≤ tt)
+  add_fits a b v x (g.to_memory_sum a' b' u w y k k') d known = ends_between a t.PlusEquals b (lit≤ tt)
+
+  subtract_fits : (a b : List Terminal) (v : NumTarget) (x : NumExpr) → IsNumTarget a v → IsNum 1 b x → AllKnown prog (a ++ t.MinusEquals ∷ b)
+      → Fits prog 0 8 (a ++ t.MinusEquals ∷ b) (assignment_code prog line (assignment.Subtract v x))
+  subtract_fits a b v x (g.to_variable _ w (e.simple n)) d known =
+      updated_fits op.Subtract n t.MinusEquals b (integer_cell prog.names n) x refl (cell_of prog line n known.0) d known.1.1
+  subtract_fits a b v x (g.to_variable _ w (e.element n a' xs k)) d known = ends_between a t.MinusEquals b (lit≤ tt)
+  subtract_fits a b v x (g.to_memory w a' y k) d known = ends_between a t.MinusEquals b (lit≤ tt)
+  subtract_fits a b v x (g.to_memory_sum a' b' u w y k k') d known = ends_between a t.MinusEquals b (lit≤ tt)
+
+  assignment_fits : (a : List Terminal) (x : Assignment) → IsAssignment a x → AllKnown prog a → Fits prog 0 8 a (assignment_code prog line x)
+  assignment_fits a x (s.assign_number a' b v y d d') known = assign_fits a' b v y d d' known
+  assignment_fits a x (s.assign_text a' b v y d d') known = ends_between a' equals b (lit≤ tt)
+
+  -- ---- output
+
+  -- the end of PRINT costs no more than its word is worth
+  finish_fits : (new_line : Bool) → Fits prog 32 0 [] (finish_code new_line)
+  finish_fits true = record { there = (tt, tt); cheap = lit≤ tt; low = lit≤ tt }
+  finish_fits false = record { there = tt; cheap = lit≤ tt; low = lit≤ tt }
+
+  -- one operation, or none, for one sign
+  sign_fits : (c : Terminal) (r : List Terminal) (mark : List Op) (ops : List Op) → AllThere prog mark → pushes mark ≡ 0 → cost mark ≤ worth c → Fits prog 32 0 r ops
+      → Fits prog 32 0 (c ∷ r) (mark ++ ops)
+  sign_fits c r mark ops there none cheap fits =
+      let sign : Fits prog 0 0 (c ∷ []) mark = record { there = there; cheap = omega (arith, cheap); low = omega (arith, none) } in
+      beside sign fits (lit≤ tt)
+
+  -- an expression, and an operation that writes it
+  write_fits : (a r : List Terminal) (x : NumExpr) (op : Op) (ops : List Op) → Fits prog 0 48 a (expr_code prog line x) → AllThere prog (op ∷ []) → pushes (op ∷ []) ≡ 0
+      → cost (op ∷ []) ≤ 48 → Fits prog 32 0 r ops → Fits prog 32 0 (a ++ r) (expr_code prog line x ++ op ∷ ops)
+  write_fits a r x op ops value there none cheap fits = around (op ∷ []) value there none fits (omega (arith, cheap))
+
+  print_fits : (b : Bool) (r : List Terminal) (ps : List PrintPart) → IsPrint b r ps → AllKnown prog r → (padded new_line : Bool)
+      → Fits prog 32 0 r (print_code prog line padded new_line ps)
+  unfolding print_code
+  print_fits b r ps (s.printed _) known padded new_line = finish_fits new_line
+  print_fits b r ps (s.print_comma _ r' qs d) known padded new_line =
+      sign_fits t.Comma r' (o.WriteMark marks.Field ∷ []) _ (tt, tt) refl (lit≤ tt) (print_fits false r' qs d known.1 true true)
+  print_fits b r ps (s.print_semicolon _ r' qs d) known padded new_line = sign_fits t.Semicolon r' [] _ tt refl (lit≤ tt) (print_fits false r' qs d known.1 false false)
+  print_fits b r ps (s.print_new_line _ r' qs d) known padded new_line =
+      sign_fits t.Apostrophe r' (o.WriteMark marks.NewLine ∷ []) _ (tt, tt) refl (lit≤ tt) (print_fits false r' qs d known.1 padded true)
+  print_fits b r ps (s.print_number _ a r' x qs k d d') known padded new_line =
+      write_fits a r' x (o.WriteNumber padded format.Decimal) _ (num_fits prog line 1 a x d (front_known prog a r' known)) (tt, tt) refl (lit≤ tt)
+      (print_fits true r' qs d' (back_known prog a r' known) padded true)
+  print_fits b r ps (s.print_hexadecimal _ a r' x qs d d') known padded new_line =
+      write_fits (t.Tilde ∷ a) r' x (o.WriteNumber padded format.Hexadecimal) _ (after t.Tilde (num_fits prog line 1 a x d (front_known prog a r' known.1)) (lit≤ tt)) (tt, tt) refl (lit≤ tt)
+      (print_fits true r' qs d' (back_known prog a r' known.1) padded true)
+  print_fits b r ps (s.print_text _ a r' y qs d d') known padded new_line =
+      beside (text_fits prog line 4 a y d (front_known prog a r' known)) (print_fits true r' qs d' (back_known prog a r' known) padded true) (lit≤ tt)
+  print_fits b r ps (s.print_spaces _ a r' x qs d d') known padded new_line =
+      write_fits (t.Keyword word.Spc ∷ a) r' x (o.Write pieces.Spaces) _ (after (t.Keyword word.Spc) (num_fits prog line 6 a x d (front_known prog a r' known.1)) (lit≤ tt)) (tt, tt) refl (lit≤ tt)
+      (print_fits true r' qs d' (back_known prog a r' known.1) padded true)
+  print_fits b r ps (s.print_tab _ a r' x qs d d') known padded new_line =
+      let rest = print_fits false r' qs d' (back_known prog a (t.Close ∷ r') known.1).1 padded true in
+      write_fits (t.Keyword word.Tab ∷ a) (t.Close ∷ r') x (o.Write pieces.Tab) _ (after (t.Keyword word.Tab) (num_fits prog line 1 a x d (front_known prog a (t.Close ∷ r') known.1)) (lit≤ tt)) (tt, tt) refl (lit≤ tt)
+      (after t.Close rest (lit≤ tt))
+
+  vdu_fits : (a : List Terminal) (ps : List VduPart) → IsVdu a ps → AllKnown prog a → Fits prog 0 0 a (vdu_code prog line ps)
+  unfolding vdu_code
+  vdu_fits a ps (s.last_byte _ x d) known = then_ops (o.Write pieces.Byte ∷ []) (num_fits prog line 1 a x d known) (tt, tt) refl (lit≤ tt)
+  vdu_fits a ps (s.last_word a' x d) known =
+      let value : Fits prog 0 48 (a' ++ t.Semicolon ∷ []) (expr_code prog line x) =
+      before (t.Semicolon ∷ []) (num_fits prog line 1 a' x d (front_known prog a' (t.Semicolon ∷ []) known)) (lit≤ tt) in
+      then_ops (o.Write pieces.Word ∷ []) value (tt, tt) refl (lit≤ tt)
+  vdu_fits a ps (s.more_byte a' r x qs d d') known =
+      let rest : Fits prog 0 0 (t.Comma ∷ r) (vdu_code prog line qs) = after t.Comma (vdu_fits r qs d' (back_known prog a' (t.Comma ∷ r) known).1) (lit≤ tt) in
+      around (o.Write pieces.Byte ∷ []) (num_fits prog line 1 a' x d (front_known prog a' (t.Comma ∷ r) known)) (tt, tt) refl rest (lit≤ tt)
+  vdu_fits a ps (s.more_word a' r x qs d d') known =
+      let rest : Fits prog 0 0 (t.Semicolon ∷ r) (vdu_code prog line qs) = after t.Semicolon (vdu_fits r qs d' (back_known prog a' (t.Semicolon ∷ r) known).1) (lit≤ tt) in
+      around (o.Write pieces.Word ∷ []) (num_fits prog line 1 a' x d (front_known prog a' (t.Semicolon ∷ r) known)) (tt, tt) refl rest (lit≤ tt)
+
+  -- ---- statements
+
+  go_fits : (c : Terminal) (a : List Terminal) (to : Option ℕ) → worth c ≡ 96 → Fits prog 0 8 (c ∷ a) (go_op to line ∷ [])
+  go_fits c a None worthy = record { there = (tt, tt); cheap = omega (arith, worthy); low = omega arith }
+  go_fits c a (Some place) worthy = record { there = (tt, tt); cheap = omega (arith, worthy); low = omega arith }
+
+  pub goto_fits : (c : Terminal) (a : List Terminal) (number : ℕ) → worth c ≡ 96 → Fits prog 0 8 (c ∷ a) (statement_code prog line (stmt.Flow (flow.Goto number)))
+  goto_fits c a number worthy = go_fits c a (line_place prog number) worthy
+
+  the_number : (a : List Terminal) (vs : Values (ANumber ∷ [])) → IsOperands (ANumber ∷ []) a vs → IsNum 1 a vs.0
+  the_number a vs (g.last_operand _ _ v d) = d
+
+  written_fits : (c : Keyword) (a : List Terminal) (vs : Values (ANumber ∷ [])) (op : Op) → worth (t.Keyword c) ≡ 96 → IsOperands (ANumber ∷ []) a vs → AllKnown prog a
+      → AllThere prog (op ∷ []) → pushes (op ∷ []) ≡ 0 → cost (op ∷ []) ≤ 48 → Fits prog 0 8 (t.Keyword c ∷ a) (expr_code prog line vs.0 ++ op ∷ [])
+  written_fits c a vs op worthy d known there none cheap =
+      let value : Fits prog 0 144 (t.Keyword c ∷ a) (expr_code prog line vs.0) = after (t.Keyword c) (num_fits prog line 1 a vs.0 (the_number a vs d) known) (omega (arith, worthy)) in
+      then_ops (op ∷ []) value there none (omega (arith, cheap))
+
+  -- what a word's form makes of its operands
+  abbrev FitsForm : Keyword → Form → Type 0
+  FitsForm c (Takes ss f) = (a : List Terminal) (vs : Values ss) → IsOperands ss a vs → AllKnown prog a → Fits prog 0 8 (t.Keyword c ∷ a) (statement_code prog line (f vs))
+  FitsForm c (Lists slot f) = (a : List Terminal) (vs : List (ValueOf slot)) → IsList slot a vs → Fits prog 0 8 (t.Keyword c ∷ a) (statement_code prog line (f vs))
+  FitsForm c OwnForm = Unit {0}
+
+  form_fits : (c : Keyword) → FitsForm c (form c)
+  form_fits word.Goto = λ a vs d known. goto_fits (t.Keyword word.Goto) a vs.0 refl
+  form_fits word.Gosub = λ a vs d known. ends (t.Keyword word.Gosub) a (lit≤ tt)
+  form_fits word.Return = λ a vs d known. ends (t.Keyword word.Return) a (lit≤ tt)
+  form_fits word.Until = λ a vs d known. ends (t.Keyword word.Until) a (lit≤ tt)
+  form_fits word.While = λ a vs d known. ends (t.Keyword word.While) a (lit≤ tt)
+  form_fits word.EndWhile = λ a vs d known. ends (t.Keyword word.EndWhile) a (lit≤ tt)
+  form_fits word.End = λ a vs d known. ends (t.Keyword word.End) a (lit≤ tt)
+  form_fits word.Stop = λ a vs d known. record { there = (tt, tt); cheap = omega arith; low = omega arith }
+  form_fits word.Quit = λ a vs d known. ends (t.Keyword word.Quit) a (lit≤ tt)
+  form_fits word.EndProc = λ a vs d known. ends (t.Keyword word.EndProc) a (lit≤ tt)
+  form_fits word.Call = λ a vs d known. ends (t.Keyword word.Call) a (lit≤ tt)
+  form_fits word.Error = λ a vs d known. ends (t.Keyword word.Error) a (lit≤ tt)
+  form_fits word.Report = λ a vs d known. ends (t.Keyword word.Report) a (lit≤ tt)
+  form_fits word.Mode = λ a vs d known. written_fits word.Mode a vs (o.Write pieces.Mode) refl d known (tt, tt) refl (lit≤ tt)
+  form_fits word.Colour = λ a vs d known. written_fits word.Colour a vs (o.Write pieces.Colour) refl d known (tt, tt) refl (lit≤ tt)
+  form_fits word.Cls = λ a vs d known. record { there = (tt, tt); cheap = omega arith; low = omega arith }
+  form_fits word.Local = λ a vs d. ends (t.Keyword word.Local) a (lit≤ tt)
+  form_fits word.Read = λ a vs d. ends (t.Keyword word.Read) a (lit≤ tt)
+  form_fits word.Dim = λ a vs d. ends (t.Keyword word.Dim) a (lit≤ tt)
+  form_fits _ = tt
+
+  pub statement_fits : (a : List Terminal) (x : Stmt) → IsStmt a x → AllKnown prog a → Fits prog 0 8 a (statement_code prog line x)
+  statement_fits a x (s.takes c ss f b vs is d) known = subst (FitsForm c) is (form_fits c) b vs d known.1
+  statement_fits a x (s.lists c slot f b vs is d) known = subst (FitsForm c) is (form_fits c) b vs d
+  statement_fits a x (s.assign _ y d) known = assignment_fits a y d known
+  statement_fits a x (s.let_assign b y d) known = after (t.Keyword word.Let) (assignment_fits b y d known.1) (lit≤ tt)
+  statement_fits a x (s.add b b' v y d d') known = add_fits b b' v y d d' known
+  statement_fits a x (s.append b b' v y d d') known = ends_between b t.PlusEquals b' (lit≤ tt)
+  statement_fits a x (s.subtract b b' v y d d') known = subtract_fits b b' v y d d' known
+  statement_fits a x (s.swap_numbers b b' v w d d') known = ends (t.Keyword word.Swap) _ (lit≤ tt)
+  statement_fits a x (s.swap_texts b b' v w d d') known = ends (t.Keyword word.Swap) _ (lit≤ tt)
+  statement_fits a x (s.for n b b' y z d d') known = ends (t.Keyword word.For) _ (lit≤ tt)
+  statement_fits a x (s.for_step n b b' q y z w d d' d2) known = ends (t.Keyword word.For) _ (lit≤ tt)
+  statement_fits a x s.next known = ends (t.Keyword word.Next) [] (lit≤ tt)
+  statement_fits a x (s.next_of b ns d) known = ends (t.Keyword word.Next) b (lit≤ tt)
+  statement_fits a x (s.procedure n) known = ends (t.Procedure n) [] (lit≤ tt)
+  statement_fits a x (s.procedure_open n b xs d) known = ends (t.ProcedureOpen n) b (lit≤ tt)
+  statement_fits a x (s.result b y d) known = ends equals b (lit≤ tt)
+  statement_fits a x s.local_error known = ends (t.Keyword word.Local) _ (lit≤ tt)
+  statement_fits a x s.restore_error known = ends (t.Keyword word.Restore) _ (lit≤ tt)
+  statement_fits a x s.on_error_off known = ends (t.Keyword word.On) _ (lit≤ tt)
+  statement_fits a x (s.print b ps d) known = after (t.Keyword word.Print) (print_fits false b ps d known.1 true true) (lit≤ tt)
+  statement_fits a x (s.vdu b ps d) known = after (t.Keyword word.Vdu) (vdu_fits b ps d known.1) (lit≤ tt)
+  statement_fits a x (s.input b ps d) known = ends (t.Keyword word.Input) b (lit≤ tt)
+  statement_fits a x (s.input_line b ps d) known = ends (t.Keyword word.Input) _ (lit≤ tt)
+  statement_fits a x s.restore known = ends (t.Keyword word.Restore) [] (lit≤ tt)
+  statement_fits a x (s.restore_line n) known = ends (t.Keyword word.Restore) _ (lit≤ tt)
