@@ -1,5 +1,6 @@
 -- Which operations have machine code yet, and how many strings are pending before them. This project's own.
-use Rattle.std.specs.Prelude.{◌≡◌, ℕ, ◌<◌, ◌≤◌, ◌^◌, Some, slice_get}
+use Rattle.std.specs.Prelude.{◌≡◌, ℕ, ◌<◌, ◌≤◌, ◌^◌, FitsSigned, Some, slice_get}
+use Rattle.std.specs.Int.{w32}
 use Rattle.bas_ir.specs.declared.ir.Ir.{Ir}
 use Rattle.bas_ir.specs.declared.op.Op.{Op}
 use Rattle.bas_ir.specs.declared.op.Op.TheVariants as o
@@ -29,3 +30,23 @@ AllHaveCode ir = (pc : ℕ) (op : Op) → slice_get ir.ops pc ≡ Some op → Ha
 -- At most one string is pending before each operation.
 abbrev pub AtMostOneText : Ir → Type 0
 AtMostOneText ir = (pc : ℕ) → (height_at ir pc).texts ≤ 1
+
+-- The numbers of an operation that has machine code have the widths of their fields: integers have 32 bits with a sign, places of
+-- items and texts 32 bits, names and lines 16 bits, residents and errors 8 bits.
+abbrev pub HasWidths : Op → Type 0
+HasWidths (o.Push value) = FitsSigned w32 value
+HasWidths (o.PushResident index) = index < 2 ^ 8
+HasWidths (o.PushInteger name line) = (name < 2 ^ 16) × (line < 2 ^ 16)
+HasWidths (o.PushText number) = number < 2 ^ 32
+HasWidths (o.Unary op line) = line < 2 ^ 16
+HasWidths (o.Binary op line) = line < 2 ^ 16
+HasWidths (o.StoreResident index) = index < 2 ^ 8
+HasWidths (o.StoreInteger name) = name < 2 ^ 16
+HasWidths (o.Go item) = item < 2 ^ 32
+HasWidths (o.GoIfZero item) = item < 2 ^ 32
+HasWidths (o.Raise error line) = (error < 2 ^ 8) × (line < 2 ^ 16)
+HasWidths _ = Unit {0}
+
+-- the numbers of all operations of a flat code have the widths of their fields
+abbrev pub AllHaveWidths : Ir → Type 0
+AllHaveWidths ir = (pc : ℕ) (op : Op) → slice_get ir.ops pc ≡ Some op → HasWidths op

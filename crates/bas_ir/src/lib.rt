@@ -7,5 +7,5 @@ mod laws;
 mod op;
 
 pub use ir::{Height, Ir, LineStart, Routine};
-pub use laws::errors_handled;
+pub use laws::{all_have_widths, errors_handled};
 pub use op::{CallKind, Mark, Op, Piece};
