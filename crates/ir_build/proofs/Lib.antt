@@ -14,7 +14,7 @@ pub mod Weights
 mod Reaching
 mod LaidOut
 mod Residents
-mod Coded
+pub mod Coded
 mod Fits
 mod FitExpressions
 mod FitStatements
