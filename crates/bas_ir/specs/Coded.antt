@@ -1,10 +1,12 @@
 -- Which operations have machine code yet, and how many strings are pending before them. This project's own.
-use Rattle.std.specs.Prelude.{◌≡◌, ℕ, ◌<◌, ◌≤◌, ◌^◌, FitsSigned, Some, slice_get}
+use Rattle.std.specs.Prelude.{◌≡◌, ℕ, suc, ◌<◌, ◌≤◌, ◌^◌, FitsSigned, Some, length, slice_get}
 use Rattle.std.specs.Int.{w32}
 use Rattle.bas_ir.specs.declared.ir.Ir.{Ir}
 use Rattle.bas_ir.specs.declared.op.Op.{Op}
 use Rattle.bas_ir.specs.declared.op.Op.TheVariants as o
 use Rattle.bas_store.specs.Cells.{residents}
+use Rattle.bas_ir.specs.Heights.{empty_height}
+use Rattle.bas_ir.specs.Places.{start_of, marks_in}
 use Rattle.bas_ir.specs.WellFormed.{height_at}
 
 -- An operation has machine code: all do but those of calls and handlers. A resident that it names is one, and an error has one
@@ -50,3 +52,16 @@ HasWidths _ = Unit {0}
 -- the numbers of all operations of a flat code have the widths of their fields
 abbrev pub AllHaveWidths : Ir → Type 0
 AllHaveWidths ir = (pc : ℕ) (op : Op) → slice_get ir.ops pc ≡ Some op → HasWidths op
+
+-- a jump leaves nothing pending
+abbrev pub LeavesNothing : Ir → ℕ → Op → Type 0
+LeavesNothing ir pc (o.Go item) = height_at ir pc ≡ empty_height
+LeavesNothing ir pc (o.GoIfZero item) = height_at ir (suc pc) ≡ empty_height
+LeavesNothing ir pc _ = Unit {0}
+
+-- The operations are those of the items: there is a mark for each item, the first item begins at the first operation, and a jump
+-- leaves nothing pending.
+pub record IsInItems (ir : Ir) : Type 0 where
+  pub marked : marks_in ir.marks ≡ length ir.starts
+  pub first : start_of ir 0 ≡ 0
+  pub jumps : (pc : ℕ) (op : Op) → slice_get ir.ops pc ≡ Some op → LeavesNothing ir pc op

@@ -57,7 +57,7 @@ length_marks (op ∷ ops) = ap suc (all_marks ops)
     all_marks [] = refl
     all_marks (op ∷ ops) = ap suc (all_marks ops)
 
-plain_marks : (c : List Op) (marks : List Bool) → marks_in (unmarked_all c ++ marks) ≡ marks_in marks
+pub plain_marks : (c : List Op) (marks : List Bool) → marks_in (unmarked_all c ++ marks) ≡ marks_in marks
 plain_marks [] marks = refl
 plain_marks (op ∷ c) marks = plain_marks c marks
 

@@ -38,12 +38,12 @@ heights_long (c ∷ cs) =
     ∙ (λ i. all_heights (Some empty_height) c i + heights_long cs i) ∙ sym (length-append c (joined cs))
 
 -- the operations of every code find what they take
-abbrev AllSuffice : List (List Op) → Type 0
+abbrev pub AllSuffice : List (List Op) → Type 0
 AllSuffice [] = Unit {0}
 AllSuffice (c ∷ cs) = Enough c empty_height × AllSuffice cs
 
 -- what follows in the table of heights after an operation
-abbrev heights_in : Option Height → List Op → List (List Op) → List Height
+abbrev pub heights_in : Option Height → List Op → List (List Op) → List Height
 heights_in h c cs = heights_of h c ++ flat_map (heights_of (Some empty_height)) cs
 
 -- one operation in the middle of joined code
@@ -51,11 +51,11 @@ pub record FlowsIn (ops : List Op) (marks : List Bool) (heights : List Height) (
   pub finds : height_after [] op (slice_index_or heights pc empty_height) ≡ Some (slice_index_or heights (suc pc) empty_height)
   pub begins : slice_index_or marks pc false ≡ true → slice_index_or heights pc empty_height ≡ empty_height
 
-is_empty_height : (h : Height) → (h.numbers ≡ 0) × (h.texts ≡ 0) → h ≡ empty_height
+pub is_empty_height : (h : Height) → (h.numbers ≡ 0) × (h.texts ≡ 0) → h ≡ empty_height
 is_empty_height h none = λ i. record { numbers = none.0 i; texts = none.1 i }
 
 -- the height after the operations of an item is that of the next item's first, or of the end
-next_is_empty : (cs : List (List Op)) → AreFull cs → slice_index_or (flat_map (heights_of (Some empty_height)) cs) 0 empty_height ≡ empty_height
+pub next_is_empty : (cs : List (List Op)) → AreFull cs → slice_index_or (flat_map (heights_of (Some empty_height)) cs) 0 empty_height ≡ empty_height
 next_is_empty [] full = refl
 next_is_empty ([] ∷ cs) full = absurd full
 next_is_empty ((op ∷ c) ∷ cs) full = refl
@@ -125,7 +125,7 @@ there_is [] n few = absurd (omega (arith, few))
 there_is (x ∷ xs) zero few = λ is. subst IsNot (sym is) tt
 there_is (x ∷ xs) (suc n) few = there_is xs n (omega (arith, few))
 
-starts_long : (cs : List (List Op)) (base : ℕ) → length (starts_from base cs) ≡ length cs
+pub starts_long : (cs : List (List Op)) (base : ℕ) → length (starts_from base cs) ≡ length cs
 starts_long [] base = refl
 starts_long (c ∷ cs) base = ap suc (starts_long cs (base + length c))
 
@@ -134,7 +134,7 @@ meant cs item found few (inl is) = is
 meant cs item found few (inr none) = absurd (there_is cs item few none.0)
 
 module _ (prog : Prog) where
-  codes_suffices : AllSuffice (codes prog)
+  pub codes_suffices : AllSuffice (codes prog)
   unfolding codes
   codes_suffices = codes_from-suffices prog (rows prog) 0
 

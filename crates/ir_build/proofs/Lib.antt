@@ -13,6 +13,7 @@ pub mod Agreement
 pub mod Weights
 mod Reaching
 mod LaidOut
+mod InItems
 mod Residents
 pub mod Coded
 mod Fits

@@ -1,6 +1,6 @@
 //! The laws of a program's flat code.
 ghost use Rattle.std.specs.Prelude.{◌≡◌, ℕ, List};
-ghost use Rattle.bas_ir.specs.Coded.{AllHaveCode, AtMostOneText};
+ghost use Rattle.bas_ir.specs.Coded.{AllHaveCode, AtMostOneText, IsInItems};
 ghost use Rattle.bas_ir.specs.Machine.{flat_run, flat_run_within};
 ghost use Rattle.bas_ast.specs.WellFormed.{WellFormed};
 ghost use Rattle.bas_ir.specs.WellFormed.{IsLaidOut, IsWellFormed};
@@ -35,6 +35,12 @@ pub fn code_laid_out(prog: &Prog)
 pub fn all_have_code(prog: &Prog)
     ensures has_code { AllHaveCode (flat_code prog.now) }
     ensures one_text { AtMostOneText (flat_code prog.now) }
+{}
+
+/// The operations of a program's flat code are those of its items: a mark for each, the first item first, and nothing is pending
+/// after a jump.
+pub fn code_in_items(prog: &Prog)
+    ensures { IsInItems (flat_code prog.now) }
 {}
 
 /// The flat code of a well-formed program is well formed: its tables fit, what it names is there, little is pending, and its

@@ -15,7 +15,7 @@ mod statements;
 mod tables;
 
 pub use laws::{
-    all_have_code, code_laid_out, code_well_formed, flat_runs_agree, simple_items_light,
-    steps_alike,
+    all_have_code, code_in_items, code_laid_out, code_well_formed, flat_runs_agree,
+    simple_items_light, steps_alike,
 };
 pub use program::build;
