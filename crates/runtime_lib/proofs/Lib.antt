@@ -1,1 +1,3 @@
 -- The proofs of the routines.
+pub mod DivisionLaws
+pub mod DivisionProof
