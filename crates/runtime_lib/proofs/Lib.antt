@@ -1,3 +1,6 @@
 -- The proofs of the routines.
 pub mod DivisionLaws
 pub mod DivisionProof
+pub mod SignedLaws
+pub mod SignedParts
+pub mod QuotientProof
