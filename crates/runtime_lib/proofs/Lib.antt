@@ -4,3 +4,4 @@ pub mod DivisionProof
 pub mod SignedLaws
 pub mod SignedParts
 pub mod QuotientProof
+pub mod ProductProof
