@@ -10,14 +10,14 @@ use Rattle.arm_core.specs.Effects.{flagged_by}
 use Rattle.arm_core.proofs.Comparisons.{after-cs, after-cc}
 use Rattle.arm_core.proofs.MemoryWords.{updated-other}
 use Rattle.arm_core.proofs.ShiftedOperands.{lsl-value, lsr-value}
-use Rattle.code_frag.specs.Demands.{Out, Falls, Leaves, Post, on_falls, at_return, Owes}
+use Rattle.code_frag.specs.Demands.{Falls, Post, on_falls, at_return, Owes}
 use Rattle.code_frag.specs.Instructions.{num, mov, cmp}
 use Rattle.code_frag.specs.Language.{Piece, Skip, If, ◌⨾◌}
-use Rattle.code_frag.proofs.Monotone.{mono}
 use Rattle.code_frag.proofs.Rules.{end_here, set_then, test_then, if_then, when_then, cut_then, multiply_then}
 use Rattle.bv_num.specs.Operation.{operation, Multiply, too_big, in_range, is_negative, with_sign, differ}
 use Rattle.runtime_lib.specs.Entries.{LibraryAsks, LibraryDoes, Answers, number_in, routine_does, Product}
 use Rattle.runtime_lib.specs.Numbers.{half_word, answer, product_by_halves, product}
+use Rattle.runtime_lib.proofs.Leading.{leads}
 use Rattle.runtime_lib.proofs.SignedParts.{Magnitudes, magnitudes_owes, Answered, answer_owes, by_result}
 use Rattle.runtime_lib.proofs.SignedLaws.{product_is, magnitude-le, big, both_great, halves}
 
@@ -74,12 +74,9 @@ module _ (s : Core) (good : IsGood s) where
   answers : (t : Core) (m : ℕ) → m < 2 ^ 32 → t.regs 0 ≡ m → m ≡ size s → t.regs 5 ≡ from_bool (sign s) → ((k : ℕ) → 8 ≤ k → t.regs k ≡ s.regs k) → t.mem ≡ s.mem → t.out ≡ s.out → t.input ≡ s.input
       → Owes LibraryAsks LibraryDoes answer (on_falls (Owes LibraryAsks LibraryDoes Skip (on_falls (Owes LibraryAsks LibraryDoes Skip (AtEnd s)) (AtEnd s))) (on_falls (Owes LibraryAsks LibraryDoes Skip (AtEnd s)) (AtEnd s))) t
   answers t m small is whole five kept mem out input =
-      record { by = mono LibraryAsks LibraryDoes answer _ _ each t (answer_owes {Asks = LibraryAsks} {Does = LibraryDoes} t (AtEnd s) m small is (sign s) five).by }
-    where
-      each : (o : Out) (u : Core) → on_falls (Answered (in_range (with_sign (sign s) m)) t) (AtEnd s) o u
-          → on_falls (Owes LibraryAsks LibraryDoes Skip (on_falls (Owes LibraryAsks LibraryDoes Skip (AtEnd s)) (AtEnd s))) (on_falls (Owes LibraryAsks LibraryDoes Skip (AtEnd s)) (AtEnd s)) o u
-      each Falls u a = end_here (end_here (returns u (subst (λ n. Answers (in_range (with_sign (sign s) n)) u) whole a.answers) (λ k high. a.kept k (omega (arith, high)) ∙ kept k high) (a.mem ∙ mem) (a.out ∙ out) (a.input ∙ input)))
-      each (Leaves x) u q = q
+      leads (Answered (in_range (with_sign (sign s) m)) t) _ (on_falls (Owes LibraryAsks LibraryDoes Skip (AtEnd s)) (AtEnd s))
+      (λ u a. end_here (end_here (returns u (subst (λ n. Answers (in_range (with_sign (sign s) n)) u) whole a.answers) (λ k high. a.kept k (omega (arith, high)) ∙ kept k high) (a.mem ∙ mem) (a.out ∙ out) (a.input ∙ input))))
+      (answer_owes t (on_falls (Owes LibraryAsks LibraryDoes Skip (AtEnd s)) (AtEnd s)) m small is (sign s) five)
 
   -- the lesser factor is below 2^16
   by_halves : (x y : ℕ) (t : Core) → Factors s x y t → y < 2 ^ 16 → Owes LibraryAsks LibraryDoes product_by_halves (on_falls (Owes LibraryAsks LibraryDoes Skip (AtEnd s)) (AtEnd s)) t

@@ -9,23 +9,15 @@ use Rattle.arm_core.specs.Core.{Core, put}
 use Rattle.arm_core.specs.Effects.{flagged_by}
 use Rattle.arm_core.proofs.Comparisons.{after-cs, after-hi}
 use Rattle.arm_core.proofs.MemoryWords.{updated-other}
-use Rattle.code_frag.specs.Demands.{Out, Falls, Leaves, Post, on_falls, Owes}
+use Rattle.code_frag.specs.Demands.{Out, Post, on_falls, Owes}
 use Rattle.code_frag.specs.Instructions.{num, rsb, cmp}
 use Rattle.code_frag.specs.Language.{Piece, Skip, If, When, ◌⨾◌}
-use Rattle.code_frag.proofs.Monotone.{mono}
 use Rattle.code_frag.proofs.Rules.{end_here, set_then, test_then, if_then, when_then}
 use Rattle.bv_num.specs.Operation.{too_big, in_range, is_negative, with_sign, differ}
 use Rattle.runtime_lib.specs.Entries.{number_in, Answers}
 use Rattle.runtime_lib.specs.Numbers.{top_bit, exchange, magnitudes, turn_sign, negative_answer, positive_answer, answer}
+use Rattle.runtime_lib.proofs.Leading.{leads}
 use Rattle.runtime_lib.proofs.SignedLaws.{IsSigned, is-low, is-high, positive_fits, positive_big, negative_fits, negative_big}
-
--- a part whose end is the whole's
-pub then_skip : {Asks : ℕ → Core → Type 0} {Does : ℕ → Core → Out → Core → Type 0} (a : Piece) (M : Core → Type 0) (Q : Post) (s : Core) → Owes Asks Does a (on_falls M Q) s → Owes Asks Does a (on_falls (Owes Asks Does Skip (on_falls M Q)) (on_falls M Q)) s
-then_skip {Asks} {Does} a M Q s owes = record { by = mono Asks Does a _ _ each s owes.by }
-  where
-    each : (o : Out) (t : Core) → on_falls M Q o t → on_falls (Owes Asks Does Skip (on_falls M Q)) (on_falls M Q) o t
-    each Falls t q = end_here q
-    each (Leaves e) t q = q
 
 -- the sign of both operands, or of the left one
 abbrev pub sign_of : Bool → Bool → Bool → Bool
@@ -248,5 +240,5 @@ module _ {Asks : ℕ → Core → Type 0} {Does : ℕ → Core → Out → Core 
     where
       by_sign : (sign : Bool) (t : Core) → t.z ≡ (minus (from_bool sign) 0 == 0) → Answering m s t
           → Owes Asks Does (If NE negative_answer positive_answer ⨾ Skip) (on_falls (Answered (in_range (with_sign sign m)) s) Q) t
-      by_sign true t zero a = if_then (λ e. then_skip _ (Answered (in_range (with_sign true m)) s) Q t (negative s Q m small t a)) (λ e. absurd (true≢false (sym (ap not zero) ∙ e)))
-      by_sign false t zero a = if_then (λ e. absurd (false≢true (sym (ap not zero) ∙ e))) (λ e. then_skip _ (Answered (in_range (with_sign false m)) s) Q t (positive s Q m small t a))
+      by_sign true t zero a = if_then (λ e. leads (Answered (in_range (with_sign true m)) s) _ Q (λ u q. end_here q) (negative s Q m small t a)) (λ e. absurd (true≢false (sym (ap not zero) ∙ e)))
+      by_sign false t zero a = if_then (λ e. absurd (false≢true (sym (ap not zero) ∙ e))) (λ e. leads (Answered (in_range (with_sign false m)) s) _ Q (λ u q. end_here q) (positive s Q m small t a))
