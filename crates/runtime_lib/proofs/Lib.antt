@@ -2,4 +2,8 @@
 mod LineEndOwes
 mod RunOwes
 mod SomeSpacesOwes
+mod StringOutOwes
+mod TextParts
+mod ToFieldOwes
+mod ToTabOwes
 mod WritingParts
