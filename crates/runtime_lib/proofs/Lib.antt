@@ -1,4 +1,6 @@
 -- The proofs of the routines.
+mod ClosingTextOwes
+mod ErrorSearch
 mod LineEndOwes
 mod RunOwes
 mod SomeSpacesOwes

@@ -1,6 +1,8 @@
 -- A row of bytes in memory that is written.
-use Rattle.std.proofs.Common.{◌≡◌, ℕ, zero, suc, ◌+◌, ◌^◌, ◌<◌, ◌≤◌, ◌==◌, [], ◌∷◌, ◌++◌, refl, sym, ap, ◌∙◌, arith, append_assoc, append-nil, eqb-true}
-use Rattle.std.proofs.lemmas.Bool.{eqb-false, not-true, not-false}
+use Rattle.std.proofs.Common.{◌≡◌, ℕ, zero, suc, ◌+◌, ◌^◌, ◌<◌, ◌≤◌, ◌==◌, List, [], ◌∷◌, ◌++◌, refl, sym, ap, ◌∙◌, arith, append_assoc, append-nil, eqb-true, ltb-true, nat_lt, true}
+use Rattle.std.specs.List.{list_all}
+use Rattle.std.proofs.lemmas.Bool.{eqb-false, not-true, not-false, and_parts}
+use Rattle.arm_isa.proofs.ImmediateLaws.{immediate_value-byte}
 use Rattle.bv_base.specs.MemoryMap.{ram_end}
 use Rattle.arm_isa.specs.Numbers.{NE}
 use Rattle.arm2_alu.proofs.RegisterLaws.{updated}
@@ -13,7 +15,7 @@ use Rattle.code_frag.specs.Demands.{Post, on_falls, Owes}
 use Rattle.code_frag.specs.Language.{Piece, Seq}
 use Rattle.code_frag.proofs.Rules.{Less, Turn, end_here, set_then, load_byte_then, write_then, test_then, while_then}
 use Rattle.runtime_lib.specs.Entries.{bytes_from, LibraryAsks, LibraryDoes}
-use Rattle.runtime_lib.specs.Writing.{text_test, text_turn, write_text}
+use Rattle.runtime_lib.specs.Writing.{literal, text_test, text_turn, write_text}
 
 -- the R4 bytes from R2 on are written; R1 is as it was, and so are R5 and those above it
 pub record WritesText (s t : Core) : Type 0 where
@@ -95,3 +97,27 @@ module _ {rest : Piece} {Q : Post} (s : Core) (rest_owes : (t : Core) → Writes
         mem = refl;
         input = refl;
       })
+
+-- ---- bytes that are known beforehand
+
+-- bytes are written, and all but R0 is as it was
+pub record WritesBytes (bytes : List ℕ) (s t : Core) : Type 0 where
+  pub out : t.out ≡ s.out ++ bytes
+  pub kept : (k : ℕ) → 1 ≤ k → t.regs k ≡ s.regs k
+  pub mem : t.mem ≡ s.mem
+  pub input : t.input ≡ s.input
+
+pub literal_then : (bytes : List ℕ) (rest : Piece) (Q : Post) (s : Core) → list_all (λ b. nat_lt b 256) bytes ≡ true → ((t : Core) → WritesBytes bytes s t → Owes LibraryAsks LibraryDoes rest Q t) → Owes LibraryAsks LibraryDoes (literal bytes rest) Q s
+literal_then [] rest Q s low rest_owes = rest_owes s (record { out = sym (append-nil s.out); kept = λ k high. refl; mem = refl; input = refl })
+literal_then (b ∷ bytes) rest Q s low rest_owes =
+    let parts = and_parts (nat_lt b 256) (list_all (λ x. nat_lt x 256) bytes) low in
+    let byte = ltb-true b 256 parts.0 in
+    set_then b refl (immediate_value-byte b byte)
+    (write_then b (omega (arith, byte))
+    (literal_then bytes rest Q _ parts.1 (λ t d.
+    rest_owes t (record {
+      out = d.out ∙ append_assoc s.out (b ∷ []) bytes;
+      kept = λ k high. d.kept k high ∙ updated-other s.regs 0 b k (λ e. omega (arith, e, high));
+      mem = d.mem;
+      input = d.input;
+    }))))

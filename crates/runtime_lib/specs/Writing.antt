@@ -1,10 +1,10 @@
 -- The routines that write, as pieces. This project's own.
-use Rattle.std.specs.Prelude.{ℕ}
+use Rattle.std.specs.Prelude.{ℕ, List, [], ◌∷◌, codes}
 use Rattle.arm_isa.specs.Numbers.{NE, LS}
 use Rattle.code_frag.specs.Instructions.{num, reg, lsl, lsr, mov, add, sub, rsb, cmp, mul, ldr, str, ldrb, write_byte, new_line}
-use Rattle.code_frag.specs.Language.{Piece, Skip, If, While, Call, ◌⨾◌}
+use Rattle.code_frag.specs.Language.{Piece, Skip, If, When, While, Call, Halt, ◌⨾◌}
 use Rattle.code_frag.specs.Regions.{base_register}
-use Rattle.runtime_lib.specs.Entries.{label_of, Run}
+use Rattle.runtime_lib.specs.Entries.{label_of, DecimalNumber, Run}
 
 -- ---- parts of routines
 
@@ -76,3 +76,30 @@ abbrev pub to_field : Piece
 to_field =
     mov 8 (reg 14) ⨾ ldr 2 base_register column_offset ⨾ add 3 2 (num 9) ⨾ mov 4 (num 0xccc) ⨾ add 4 4 (num 0xcd) ⨾ mul 5 3 4
     ⨾ mov 5 (lsr 5 19) ⨾ add 5 5 (lsl 5 2) ⨾ rsb 1 2 (lsl 5 1) ⨾ advance run_at_end
+
+-- ---- the closing text
+
+-- bytes that are known beforehand
+abbrev pub literal : List ℕ → Piece → Piece
+literal [] rest = rest
+literal (byte ∷ bytes) rest = mov 0 (num byte) ⨾ write_byte ⨾ literal bytes rest
+
+-- R2 leads to the number of an error's text, and is moved on until that is R9 or the table's end
+abbrev pub search_test : Piece
+search_test = ldrb 3 2 0 ⨾ cmp 3 (reg 9) ⨾ When NE (cmp 3 (num 255) ⨾ Skip) ⨾ Skip
+
+abbrev pub search_turn : Piece
+search_turn = ldrb 4 2 1 ⨾ add 2 2 (num 2) ⨾ add 2 2 (reg 4) ⨾ Skip
+
+-- the text of the error in R9 is written; the table comes 12 bytes after the image's start, which is the immediate &601
+abbrev pub write_error : Piece → Piece
+write_error rest = mov 2 (num 0x601) ⨾ add 2 2 (num 12) ⨾ While search_test NE search_turn ⨾ ldrb 4 2 1 ⨾ add 2 2 (num 2) ⨾ write_text ⨾ rest
+
+-- the end of the run, by the error in R9 at the line in R10
+abbrev pub fail : Piece
+fail = mov 0 (num 1) ⨾ mov 1 (reg 9) ⨾ mov 2 (reg 10) ⨾ Halt ⨾ Skip
+
+abbrev pub closing_text : Piece
+closing_text =
+    mov 9 (reg 0) ⨾ mov 10 (reg 1) ⨾ new_line
+    ⨾ write_error (literal (codes " at line ") (mov 0 (reg 10) ⨾ mov 1 (num 0) ⨾ Call (label_of DecimalNumber) ⨾ new_line ⨾ fail))
