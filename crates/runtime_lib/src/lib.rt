@@ -3,5 +3,12 @@
 #![tactic(auto)]
 
 mod errors;
+mod instructions;
+mod labels;
+mod writing;
 
 pub use errors::error_table;
+pub use writing::{
+    emit_closing_text, emit_line_end, emit_run, emit_some_spaces, emit_string_out, emit_to_field,
+    emit_to_tab,
+};
