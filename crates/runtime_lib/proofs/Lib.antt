@@ -1,11 +1,11 @@
 -- The proofs of the routines.
-mod ClosingTextOwes
+mod ClosingTextProof
 mod ErrorSearch
-mod LineEndOwes
-mod RunOwes
-mod SomeSpacesOwes
-mod StringOutOwes
+mod LineEndProof
+mod RunProof
+mod SomeSpacesProof
+mod StringOutProof
 mod TextParts
-mod ToFieldOwes
-mod ToTabOwes
+mod ToFieldProof
+mod ToTabProof
 mod WritingParts
