@@ -1,8 +1,14 @@
 -- The proofs of the routines.
 mod ClosingTextProof
+mod DivisionLaws
+mod DivisionProof
 mod ErrorSearch
 mod LineEndProof
+mod ProductProof
+mod QuotientProof
 mod RunProof
+mod SignedLaws
+mod SignedParts
 mod SomeSpacesProof
 mod StringOutProof
 mod TextParts
