@@ -1,12 +1,22 @@
 -- The proofs of the routines.
-pub mod DivisionLaws
-pub mod DivisionProof
-pub mod Leading
-pub mod SignedLaws
-pub mod SignedParts
-pub mod QuotientProof
-pub mod ProductProof
-pub mod DigitLaws
-pub mod DigitParts
-pub mod NumberParts
-pub mod NumberProof
+mod ClosingTextProof
+mod DigitLaws
+mod DigitParts
+mod DivisionLaws
+mod DivisionProof
+mod ErrorSearch
+mod Leading
+mod LineEndProof
+mod NumberParts
+mod NumberProof
+mod ProductProof
+mod QuotientProof
+mod RunProof
+mod SignedLaws
+mod SignedParts
+mod SomeSpacesProof
+mod StringOutProof
+mod TextParts
+mod ToFieldProof
+mod ToTabProof
+mod WritingParts

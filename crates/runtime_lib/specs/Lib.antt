@@ -1,3 +1,5 @@
+pub mod Digits
 pub mod Entries
 pub mod Numbers
-pub mod Digits
+pub mod Routines
+pub mod Writing

@@ -1,3 +1,14 @@
 //! The run-time library: routines of ARM code for what the code of a program does not do in words of its own. Each entry has a
 //! relation over the definitions of numbers and of output.
 #![tactic(auto)]
+
+mod errors;
+mod instructions;
+mod labels;
+mod writing;
+
+pub use errors::error_table;
+pub use writing::{
+    emit_closing_text, emit_line_end, emit_run, emit_some_spaces, emit_string_out, emit_to_field,
+    emit_to_tab,
+};
