@@ -5,9 +5,11 @@
 mod errors;
 mod instructions;
 mod labels;
+mod laws;
 mod writing;
 
 pub use errors::error_table;
+pub use laws::library_meets;
 pub use writing::{
     emit_closing_text, emit_line_end, emit_run, emit_some_spaces, emit_string_out, emit_to_field,
     emit_to_tab,
