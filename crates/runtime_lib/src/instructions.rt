@@ -33,6 +33,32 @@ macro_rules! data {
     };
 }
 
+/// Data processing under a condition.
+macro_rules! data_if {
+    ($cond:expr, $op:expr, $s:expr, $rd:expr, $rn:expr, num $field:expr) => {
+        Item::Ins(Instr::Data {
+            cond: $cond,
+            imm: true,
+            op: $op,
+            s: $s,
+            rn: $rn,
+            rd: $rd,
+            op2: $field,
+        })
+    };
+    ($cond:expr, $op:expr, $s:expr, $rd:expr, $rn:expr, reg $rm:expr) => {
+        Item::Ins(Instr::Data {
+            cond: $cond,
+            imm: false,
+            op: $op,
+            s: $s,
+            rn: $rn,
+            rd: $rd,
+            op2: $rm,
+        })
+    };
+}
+
 /// Rd takes the operand.
 macro_rules! mov {
     ($rd:expr, $($operand:tt)*) => {
@@ -167,6 +193,7 @@ pub(crate) use branch;
 pub(crate) use call;
 pub(crate) use cmp;
 pub(crate) use data;
+pub(crate) use data_if;
 pub(crate) use ldr;
 pub(crate) use ldrb;
 pub(crate) use mov;
