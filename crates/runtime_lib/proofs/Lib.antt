@@ -6,6 +6,7 @@ mod DivisionLaws
 mod DivisionProof
 mod ErrorSearch
 mod Leading
+mod LibraryLaws
 mod LineEndProof
 mod NumberParts
 mod NumberProof
