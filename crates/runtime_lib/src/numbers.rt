@@ -16,6 +16,11 @@ const TOP_BIT: u16 = 0x102;
 
 const HALF_WORD: u16 = 0x801;
 
+/// The distances over what DIV and MOD do where the divisor isn't 0.
+const DIV_WORDS: i32 = 25;
+
+const MOD_WORDS: i32 = 25;
+
 /// The items of the routine that divides words.
 static WORDS: [Item; 26] = [
     mov!(2, num 0),
@@ -97,7 +102,7 @@ static QUOTIENT: [Item; 31] = operation!(
         cmp!(0, num 0),
         branch!(NE, 1),
         mov!(1, num DIVISION_BY_ZERO as u16),
-        branch!(AL, 25),
+        branch!(AL, DIV_WORDS),
         mov!(4, reg 14)
     ],
     sign 1, [rsb!(5, 5, num 1)],
@@ -120,7 +125,7 @@ static MODULUS: [Item; 31] = operation!(
         cmp!(0, num 0),
         branch!(NE, 1),
         mov!(1, num DIVISION_BY_ZERO as u16),
-        branch!(AL, 25),
+        branch!(AL, MOD_WORDS),
         mov!(4, reg 14)
     ],
     sign 0, [],
