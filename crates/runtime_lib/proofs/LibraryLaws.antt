@@ -1,7 +1,7 @@
 -- Wherever the library stands, each routine meets its contract.
-use Rattle.std.proofs.Common.{◌≡◌, ℕ, zero, suc, ◌+◌, ◌-◌, ◌*◌, ◌<◌, ◌≤◌, List, [], ◌∷◌, length, map, true, slice_get, Option, Some, None, refl, sym, subst, arith, length-append}
+use Rattle.std.proofs.Common.{◌≡◌, ℕ, zero, suc, ◌+◌, ◌-◌, ◌*◌, ◌<◌, ◌≤◌, List, [], ◌∷◌, length, map, nat_lt, true, slice_get, Option, Some, None, refl, sym, subst, arith, ltb-true, length-append}
 use Rattle.std.specs.List.{list_all}
-use Rattle.std.proofs.lemmas.Bool.{false≢true}
+use Rattle.std.proofs.lemmas.Bool.{false≢true, and_parts}
 use Rattle.std.proofs.lemmas.List.{length-map}
 use Rattle.arm_core.specs.Core.{Core}
 use Rattle.code_frag.specs.Demands.{ToLabel, Out, Leaves}
@@ -182,6 +182,15 @@ library-meets B E code entry base n asks does stands label within =
     meets-moved code under entry LibraryAsks B LibraryDoes E label (label + n) refl (asks label) (does label) (leads_to_none (routine_of label))
     (subst (Meets code under LibraryAsks LibraryDoes) (let e : 0 + label ≡ label = omega arith in e)
     (one_meets code under routines_count 0 label within (all_meet code under (library_placed code under base stands.lies stands.stands stands.entries))))
+
+-- the same of some of its labels, as those that a piece calls
+pub library-meet_each : (B : ℕ → Core → Type 0) (E : ℕ → Core → Out → Core → Type 0) (code entry : ℕ → ℕ) (base n : ℕ) → ((label : ℕ) (s : Core) → B (label + n) s → LibraryAsks label s)
+    → ((label : ℕ) (s : Core) (o : Out) (t : Core) → LibraryDoes label s o t → E (label + n) s o t) → LibraryStands code entry base n → (labels : List ℕ) → list_all (λ label. nat_lt label routines_count) labels ≡ true
+    → MeetEach code entry B E (map (λ label. label + n) labels)
+library-meet_each B E code entry base n asks does stands [] below = tt
+library-meet_each B E code entry base n asks does stands (label ∷ labels) below =
+    let parts = and_parts (nat_lt label routines_count) (list_all (λ k. nat_lt k routines_count) labels) below in
+    (library-meets B E code entry base n asks does stands label (ltb-true label routines_count parts.0), library-meet_each B E code entry base n asks does stands labels parts.1)
 
 pub library_meets : LibraryMeets
 library_meets code entry base n stands label within =
