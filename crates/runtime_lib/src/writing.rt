@@ -106,7 +106,7 @@ pub fn emit_string_out(frag: &mut Frag) -> Result<(), NoMemory>
 static CLOSING_TEXT: [Item; 50] = [
     mov!(9, reg 0),
     mov!(10, reg 1),
-    swi!(SWI_NEW_LINE),
+    swi!(SWI_NEW_LINE), // before the text
     mov!(2, num 0x601),
     add!(2, 2, num 12),
     ldrb!(3, 2, 0),
