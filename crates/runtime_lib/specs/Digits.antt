@@ -21,6 +21,7 @@ abbrev pub sum_with : ℕ → List ℕ → ℕ
 sum_with x [] = x
 sum_with x (field ∷ fields) = sum_with (x + immediate_value field) fields
 
+-- and that sum
 abbrev pub power_value : Power → ℕ
 power_value p = sum_with (immediate_value p.first) p.more
 
