@@ -5,12 +5,12 @@ use Rattle.std.proofs.lemmas.Int.Digits.{digits_of_step}
 use Rattle.std.proofs.lemmas.Nat.{le-div}
 use Rattle.std.proofs.Math.Nat.{div-eq_of_lt, mod-eq_of_lt, div-add-mod, div-div-eq-div-mul, mul-le-mul_left}
 use Rattle.arm_isa.specs.Immediates.{immediate_value}
-use Rattle.runtime_lib.specs.Digits.{Power, sum_with, value_of}
+use Rattle.runtime_lib.specs.Digits.{Power, sum_with, power_value}
 
 -- powers that fall from one to the base, each a part of the one before
 abbrev pub Descend : ℕ → ℕ → List Power → Type 0
 Descend base above [] = above ≡ base
-Descend base above (p ∷ ps) = (value_of p * base ≡ above) × (0 < value_of p) × (value_of p < 2 ^ 32) × Descend base (value_of p) ps
+Descend base above (p ∷ ps) = (power_value p * base ≡ above) × (0 < power_value p) × (power_value p < 2 ^ 32) × Descend base (power_value p) ps
 
 pub sum_with-le : (x : ℕ) (fields : List ℕ) → x ≤ sum_with x fields
 sum_with-le x [] = omega arith

@@ -25,7 +25,7 @@ use Rattle.code_frag.proofs.Rules.{end_here, set_then, test_then, when_then, cal
 use Rattle.runtime_lib.specs.Entries.{LibraryAsks, LibraryDoes, CanWrite, WritesPart, IsUntouched, number_in, column_in, routine_does, DecimalNumber, HexadecimalNumber, Run, label_of}
 use Rattle.runtime_lib.specs.Digits.{Power, pads, moves_column, writes_number, decimal_number, hexadecimal_number, powers_of_ten, powers_of_sixteen}
 use Rattle.runtime_lib.proofs.DigitLaws.{Descend}
-use Rattle.runtime_lib.proofs.DigitParts.{counts_then, writes_then, Wrote, writes_digit_owes}
+use Rattle.runtime_lib.proofs.DigitParts.{counts_then, writes_then, WritesDigit, writes_digit_owes}
 use Rattle.runtime_lib.proofs.NumberParts.{padding, justified_is, Pads, pads_owes, MovesColumn, moves_column_owes, sign_text, WritesSign, writes_sign_owes}
 
 -- ---- before the text
@@ -171,7 +171,7 @@ module _ (base above n : ℕ) (negative : Bool) (powers : List Power) (least : 2
       let d = n % base in
       let below_16 = mod_below n base (omega (arith, least)) in
       set_then (48 + d) refl ((λ i. (k.left i + 48) % 2 ^ 32) ∙ omega (arith, below_16, greatest))
-      (cut_then (Wrote d (put 0 (48 + d) x)) (writes_digit_owes d (omega (arith, below_16, greatest)) (put 0 (48 + d) x) AtEnd refl)
+      (cut_then (WritesDigit d (put 0 (48 + d) x)) (writes_digit_owes d (omega (arith, below_16, greatest)) (put 0 (48 + d) x) AtEnd refl)
       (λ y q.
       let kept_y = λ (j : ℕ) (high : 8 ≤ j) (low : j ≤ 13). q.kept j (λ e. omega (arith, e, high)) ∙ updated-other x.regs 0 (48 + d) j (λ e. omega (arith, e, high)) ∙ k.kept j high ∙ g.kept j (λ e. omega (arith, e, high))
       ∙ p.kept j (omega (arith, high)) low ∙ kept_u j high in

@@ -18,7 +18,7 @@ use Rattle.bv_num.specs.Operation.{operation, Multiply, too_big, in_range, is_ne
 use Rattle.runtime_lib.specs.Entries.{LibraryAsks, LibraryDoes, Answers, number_in, routine_does, Product}
 use Rattle.runtime_lib.specs.Numbers.{half_word, answer, product_by_halves, product}
 use Rattle.runtime_lib.proofs.Leading.{leads}
-use Rattle.runtime_lib.proofs.SignedParts.{Magnitudes, magnitudes_owes, Answered, answer_owes, by_result}
+use Rattle.runtime_lib.proofs.SignedParts.{Magnitudes, magnitudes_owes, GivesAnswer, answer_owes, by_result}
 use Rattle.runtime_lib.proofs.SignedLaws.{product_is, magnitude-le, big, both_great, halves}
 
 -- what is asked at the end
@@ -74,7 +74,7 @@ module _ (s : Core) (good : IsGood s) where
   answers : (t : Core) (m : ℕ) → m < 2 ^ 32 → t.regs 0 ≡ m → m ≡ size s → t.regs 5 ≡ from_bool (sign s) → ((k : ℕ) → 8 ≤ k → t.regs k ≡ s.regs k) → t.mem ≡ s.mem → t.out ≡ s.out → t.input ≡ s.input
       → Owes LibraryAsks LibraryDoes answer (on_falls (Owes LibraryAsks LibraryDoes Skip (on_falls (Owes LibraryAsks LibraryDoes Skip (AtEnd s)) (AtEnd s))) (on_falls (Owes LibraryAsks LibraryDoes Skip (AtEnd s)) (AtEnd s))) t
   answers t m small is whole five kept mem out input =
-      leads (Answered (in_range (with_sign (sign s) m)) t) _ (on_falls (Owes LibraryAsks LibraryDoes Skip (AtEnd s)) (AtEnd s))
+      leads (GivesAnswer (in_range (with_sign (sign s) m)) t) _ (on_falls (Owes LibraryAsks LibraryDoes Skip (AtEnd s)) (AtEnd s))
       (λ u a. end_here (end_here (returns u (subst (λ n. Answers (in_range (with_sign (sign s) n)) u) whole a.answers) (λ k high. a.kept k (omega (arith, high)) ∙ kept k high) (a.mem ∙ mem) (a.out ∙ out) (a.input ∙ input))))
       (answer_owes t (on_falls (Owes LibraryAsks LibraryDoes Skip (AtEnd s)) (AtEnd s)) m small is (sign s) five)
 

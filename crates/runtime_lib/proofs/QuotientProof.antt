@@ -15,7 +15,7 @@ use Rattle.code_frag.proofs.Rules.{end_here, set_then, test_then, if_then, call_
 use Rattle.bv_num.specs.Operation.{Operation, operation, Divide, Remainder, divides, exact, division_by_zero, in_range, is_negative, with_sign, differ}
 use Rattle.runtime_lib.specs.Entries.{LibraryAsks, LibraryDoes, Calculates, number_in, routine_does, Quotient, Modulus, Division, label_of}
 use Rattle.runtime_lib.specs.Numbers.{magnitudes, answer, quotient, modulus}
-use Rattle.runtime_lib.proofs.SignedParts.{sign_of, Magnitudes, magnitudes_owes, Answered, answer_owes, by_result, in_registers}
+use Rattle.runtime_lib.proofs.SignedParts.{sign_of, Magnitudes, magnitudes_owes, GivesAnswer, answer_owes, by_result, in_registers}
 use Rattle.runtime_lib.proofs.SignedLaws.{zero-magnitude, some-magnitude}
 
 -- the operands
@@ -41,7 +41,7 @@ record Aside (s t : Core) : Type 0 where
   input : t.input ≡ s.input
 
 -- the magnitudes are divided
-record Divided (of_both : Bool) (s t : Core) : Type 0 where
+record DividesMagnitudes (of_both : Bool) (s t : Core) : Type 0 where
   quotient : t.regs 0 ≡ unsigned_abs (left s) / unsigned_abs (right s)
   remainder : t.regs 1 ≡ unsigned_abs (left s) % unsigned_abs (right s)
   sign : t.regs 5 ≡ from_bool (sign_of of_both (is_negative (left s)) (is_negative (right s)))
@@ -52,7 +52,7 @@ module _ (s : Core) (good : IsGood s) where
   abbrev tested : Core
   tested = flagged_by (compared (s.regs 0) 0) s
 
-  divides_then : (of_both : Bool) {rest : Piece} (Q : Post) → (s.regs 0 ≡ 0 → ⊥) → ((t : Core) → Divided of_both s t → Owes LibraryAsks LibraryDoes rest Q t)
+  divides_then : (of_both : Bool) {rest : Piece} (Q : Post) → (s.regs 0 ≡ 0 → ⊥) → ((t : Core) → DividesMagnitudes of_both s t → Owes LibraryAsks LibraryDoes rest Q t)
       → Owes LibraryAsks LibraryDoes (mov 4 (reg 14) ⨾ magnitudes of_both ⨾ Call (label_of Division) ⨾ rest) Q tested
   divides_then of_both {rest} Q some next =
       let u = put 4 (s.regs 14) tested in
@@ -85,7 +85,7 @@ module _ (s : Core) (good : IsGood s) where
   answers_then : (result : Result ℤ ℕ) (sign : Bool) (m : ℕ) (t : Core) → m < 2 ^ 32 → t.regs 0 ≡ m → t.regs 5 ≡ from_bool sign → Aside s t → result ≡ in_range (with_sign sign m)
       → Owes LibraryAsks LibraryDoes (answer ⨾ mov 14 (reg 4) ⨾ Skip) (Inside result s) t
   answers_then result sign m t small is five aside same =
-      cut_then (Answered (in_range (with_sign sign m)) t) (answer_owes t (Inside result s) m small is sign five)
+      cut_then (GivesAnswer (in_range (with_sign sign m)) t) (answer_owes t (Inside result s) m small is sign five)
       (λ u a.
       set_then (s.regs 14) refl (a.kept 4 (omega arith) ∙ aside.back)
       (end_here (end_here (

@@ -154,7 +154,7 @@ module _ {Asks : ℕ → Core → Type 0} {Does : ℕ → Core → Out → Core 
 -- ---- the answer
 
 -- a result or an error is in R0 and R1
-pub record Answered (result : Result ℤ ℕ) (s t : Core) : Type 0 where
+pub record GivesAnswer (result : Result ℤ ℕ) (s t : Core) : Type 0 where
   pub answers : Answers result t
   pub kept : (k : ℕ) → 3 ≤ k → t.regs k ≡ s.regs k
   pub mem : t.mem ≡ s.mem
@@ -162,7 +162,7 @@ pub record Answered (result : Result ℤ ℕ) (s t : Core) : Type 0 where
   pub input : t.input ≡ s.input
 
 -- no error yet: R1 is 0, and R0 has the magnitude
-record Answering (m : ℕ) (s t : Core) : Type 0 where
+record AwaitsAnswer (m : ℕ) (s t : Core) : Type 0 where
   magnitude : t.regs 0 ≡ m
   none : t.regs 1 ≡ 0
   kept : (k : ℕ) → 3 ≤ k → t.regs k ≡ s.regs k
@@ -183,7 +183,7 @@ in_registers (Ok value) t u zero one answers = (one ∙ answers.0, ap (cast_sign
 in_registers (Err error) t u zero one answers = one ∙ answers
 
 module _ {Asks : ℕ → Core → Type 0} {Does : ℕ → Core → Out → Core → Type 0} (s : Core) (Q : Post) (m : ℕ) (small : m < 2 ^ 32) where
-  positive : (t : Core) → Answering m s t → Owes Asks Does positive_answer (on_falls (Answered (in_range (with_sign false m)) s) Q) t
+  positive : (t : Core) → AwaitsAnswer m s t → Owes Asks Does positive_answer (on_falls (GivesAnswer (in_range (with_sign false m)) s) Q) t
   positive t a =
       let over = after-cs m (2 ^ 31) t in
       test_then (compared m (2 ^ 31)) refl (λ i. compared (a.magnitude i) (2 ^ 31))
@@ -203,7 +203,7 @@ module _ {Asks : ℕ → Core → Type 0} {Does : ℕ → Core → Out → Core 
         input = a.input;
       })))
 
-  negative : (t : Core) → Answering m s t → Owes Asks Does negative_answer (on_falls (Answered (in_range (with_sign true m)) s) Q) t
+  negative : (t : Core) → AwaitsAnswer m s t → Owes Asks Does negative_answer (on_falls (GivesAnswer (in_range (with_sign true m)) s) Q) t
   negative t a =
       let over = after-hi m (2 ^ 31) t small (omega arith) in
       let x = minus 0 m in
@@ -225,7 +225,7 @@ module _ {Asks : ℕ → Core → Type 0} {Does : ℕ → Core → Out → Core 
       }))))
 
 module _ {Asks : ℕ → Core → Type 0} {Does : ℕ → Core → Out → Core → Type 0} (s : Core) (Q : Post) (m : ℕ) (small : m < 2 ^ 32) (is : s.regs 0 ≡ m) where
-  pub answer_owes : (sign : Bool) → s.regs 5 ≡ from_bool sign → Owes Asks Does answer (on_falls (Answered (in_range (with_sign sign m)) s) Q) s
+  pub answer_owes : (sign : Bool) → s.regs 5 ≡ from_bool sign → Owes Asks Does answer (on_falls (GivesAnswer (in_range (with_sign sign m)) s) Q) s
   answer_owes sign five =
       set_then 0 refl refl
       (test_then (compared (from_bool sign) 0) refl (λ i. compared (five i) 0)
@@ -238,7 +238,7 @@ module _ {Asks : ℕ → Core → Type 0} {Does : ℕ → Core → Out → Core 
         input = refl;
       })))
     where
-      by_sign : (sign : Bool) (t : Core) → t.z ≡ (minus (from_bool sign) 0 == 0) → Answering m s t
-          → Owes Asks Does (If NE negative_answer positive_answer ⨾ Skip) (on_falls (Answered (in_range (with_sign sign m)) s) Q) t
-      by_sign true t zero a = if_then (λ e. leads (Answered (in_range (with_sign true m)) s) _ Q (λ u q. end_here q) (negative s Q m small t a)) (λ e. absurd (true≢false (sym (ap not zero) ∙ e)))
-      by_sign false t zero a = if_then (λ e. absurd (false≢true (sym (ap not zero) ∙ e))) (λ e. leads (Answered (in_range (with_sign false m)) s) _ Q (λ u q. end_here q) (positive s Q m small t a))
+      by_sign : (sign : Bool) (t : Core) → t.z ≡ (minus (from_bool sign) 0 == 0) → AwaitsAnswer m s t
+          → Owes Asks Does (If NE negative_answer positive_answer ⨾ Skip) (on_falls (GivesAnswer (in_range (with_sign sign m)) s) Q) t
+      by_sign true t zero a = if_then (λ e. leads (GivesAnswer (in_range (with_sign true m)) s) _ Q (λ u q. end_here q) (negative s Q m small t a)) (λ e. absurd (true≢false (sym (ap not zero) ∙ e)))
+      by_sign false t zero a = if_then (λ e. absurd (false≢true (sym (ap not zero) ∙ e))) (λ e. leads (GivesAnswer (in_range (with_sign false m)) s) _ Q (λ u q. end_here q) (positive s Q m small t a))

@@ -4,8 +4,10 @@ use Rattle.arm_isa.specs.Immediates.{immediate_value}
 use Rattle.arm_isa.specs.Numbers.{ADD, MOV, NE, CS, CC}
 use Rattle.code_frag.specs.Instructions.{num, reg, lsl, lsr, process_if, mov, add, sub, rsb, rsbs, cmp, ldr, str, write_byte}
 use Rattle.code_frag.specs.Language.{Piece, Skip, When, While, Call, ◌⨾◌}
+use Rattle.code_frag.specs.Regions.{base_register}
 use Rattle.runtime_lib.specs.Entries.{Run, label_of}
 use Rattle.runtime_lib.specs.Numbers.{top_bit}
+use Rattle.runtime_lib.specs.Writing.{column_offset}
 
 -- ---- powers of the base
 
@@ -19,8 +21,9 @@ abbrev pub sum_with : ℕ → List ℕ → ℕ
 sum_with x [] = x
 sum_with x (field ∷ fields) = sum_with (x + immediate_value field) fields
 
-abbrev pub value_of : Power → ℕ
-value_of p = sum_with (immediate_value p.first) p.more
+-- and that sum
+abbrev pub power_value : Power → ℕ
+power_value p = sum_with (immediate_value p.first) p.more
 
 -- 10^9 to 10
 abbrev pub powers_of_ten : List Power
@@ -83,9 +86,9 @@ writes (p ∷ ps) rest = takes_power p (cmp 7 (reg 2) ⨾ When CS takes_digit �
 abbrev pub pads : Piece
 pads = cmp 1 (num 0) ⨾ When NE (rsbs 1 6 (num 10) ⨾ process_if CC MOV 1 0 (num 0) ⨾ Skip) ⨾ Skip
 
--- the column after R6 and R1 more, modulo 65,536; it lies 108 bytes after the residents
+-- the column after R6 and R1 more, modulo 65,536
 abbrev pub moves_column : Piece
-moves_column = ldr 2 11 108 ⨾ add 2 2 (reg 6) ⨾ add 2 2 (reg 1) ⨾ mov 2 (lsl 2 16) ⨾ mov 2 (lsr 2 16) ⨾ str 2 11 108 ⨾ Skip
+moves_column = ldr 2 base_register column_offset ⨾ add 2 2 (reg 6) ⨾ add 2 2 (reg 1) ⨾ mov 2 (lsl 2 16) ⨾ mov 2 (lsr 2 16) ⨾ str 2 base_register column_offset ⨾ Skip
 
 -- a minus sign where R5 isn't 0
 abbrev pub writes_sign : Piece

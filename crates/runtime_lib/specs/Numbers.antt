@@ -9,11 +9,11 @@ use Rattle.runtime_lib.specs.Entries.{Division, label_of}
 
 -- ---- the division of words
 
--- Where the divisor goes into the remainder, it is subtracted, and the quotient's bit is 1. The carry out of the remainder is a
--- bit of it, and there is then no need to compare, so that no divisor is too great.
+-- where the divisor in R1 goes into the remainder in R2, it is subtracted, and the quotient's bit in R0 is 1
 abbrev pub division_subtracts : Piece → Piece
 division_subtracts rest = process_if CS SUB 2 2 (reg 1) ⨾ process_if CS ADD 0 0 (num 1) ⨾ rest
 
+-- whether it does: the carry out of the remainder is a bit of it, and then there is no need to compare, so no divisor is too great
 abbrev pub division_compares : Piece → Piece
 division_compares rest = Do (Data CC false CMP true 2 0 1) ⨾ division_subtracts rest
 
@@ -26,6 +26,7 @@ division_bit rest = adds 0 0 (reg 0) ⨾ process_flags ADC 2 2 (reg 2) ⨾ divis
 abbrev pub division_turn : Piece
 division_turn = division_bit (division_bit (division_bit (division_bit (subs 3 3 (num 1) ⨾ Skip))))
 
+-- R0 divided by R1: the quotient in R0, and the remainder in R1
 abbrev pub division : Piece
 division = mov 2 (num 0) ⨾ mov 3 (num 8) ⨾ Repeat division_turn NE ⨾ mov 1 (reg 2) ⨾ Skip
 
@@ -56,11 +57,11 @@ magnitudes of_both =
     ⨾ cmp 0 (num top_bit) ⨾ When CS (rsb 0 0 (num 0) ⨾ turn_sign of_both)
     ⨾ exchange
 
--- what comes back of a magnitude in R0 where the number is negative, and where it isn't: the number; or the error "number too
--- big" in R1
+-- what comes back of a magnitude in R0 where the number is negative: the number; or the error "number too big" in R1
 abbrev pub negative_answer : Piece
 negative_answer = cmp 0 (num top_bit) ⨾ When HI (mov 1 (num too_big) ⨾ Skip) ⨾ rsb 0 0 (num 0) ⨾ Skip
 
+-- and where it isn't negative
 abbrev pub positive_answer : Piece
 positive_answer = cmp 0 (num top_bit) ⨾ When CS (mov 1 (num too_big) ⨾ Skip) ⨾ Skip
 

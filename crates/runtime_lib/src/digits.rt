@@ -4,7 +4,8 @@ ghost use Rattle.runtime_lib.specs.Routines.{routines_count, with_piece};
 ghost use Rattle.runtime_lib.specs.Digits.{decimal_number, hexadecimal_number};
 
 use crate::instructions::{
-    add, back, branch, call, cmp, data, data_if, ldr, mov, rsb, single, store, sub, swi,
+    BASE, COLUMN, TOP_BIT, add, back, branch, call, cmp, data, data_if, ldr, mov, rsb, single,
+    store, sub, swi,
 };
 use crate::labels::RUN;
 use arm_isa::Instr;
@@ -12,15 +13,6 @@ use arm_isa::numbers::{ADD, AL, CC, CMP, CS, EQ, MOV, RSB, SUB};
 use arm2_machine::SWI_WRITE;
 use bv_base::NoMemory;
 use code_frag::{Frag, Item};
-
-/// The register that has the residents' address.
-const BASE: u8 = 11;
-
-/// Where the column stands, from the residents on, in bytes.
-const COLUMN: u16 = 108;
-
-/// The field of the immediate 2^31.
-const TOP_BIT: u16 = 0x102;
 
 /// A routine that writes a number: what comes first; and for each power of the base, from the highest to the base, the items by
 /// which it comes into R2, once for the count of the digits and once for the digit.

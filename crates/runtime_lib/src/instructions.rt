@@ -1,6 +1,15 @@
 //! Items of routines by short names, as they stand in `Instructions.antt` of `code_frag`: an operand is `num` with a number or the
 //! field of an immediate, `reg` with a register, or `lsl` or `lsr` with a register and the bits that it is shifted by.
 
+/// The register that has the residents' address.
+pub const BASE: u8 = 11;
+
+/// Where the column stands, from the residents on, in bytes.
+pub const COLUMN: u16 = 108;
+
+/// The field of the immediate 2^31.
+pub const TOP_BIT: u16 = 0x102;
+
 /// Data processing without flags or with them.
 macro_rules! data {
     ($op:expr, $s:expr, $rd:expr, $rn:expr, num $field:expr) => {

@@ -3,7 +3,9 @@ ghost use Rattle.std.specs.Prelude.{◌≡◌, length, OnOk, OnErr};
 ghost use Rattle.runtime_lib.specs.Routines.{routines_count, with_piece};
 ghost use Rattle.runtime_lib.specs.Numbers.{product, quotient, modulus, division};
 
-use crate::instructions::{add, back, branch, call, cmp, data, data_if, mov, mul, rsb, sub};
+use crate::instructions::{
+    TOP_BIT, add, back, branch, call, cmp, data, data_if, mov, mul, rsb, sub,
+};
 use crate::labels::DIVISION;
 use arm_isa::Instr;
 use arm_isa::numbers::{ADC, ADD, AL, CC, CMP, CS, EQ, LS, MOV, NE, RSB, SUB};
@@ -11,14 +13,13 @@ use bv_base::NoMemory;
 use bv_num::{DIVISION_BY_ZERO, TOO_BIG};
 use code_frag::{Frag, Item};
 
-/// The fields of the immediates 2^31 and 2^16.
-const TOP_BIT: u16 = 0x102;
-
+/// The field of the immediate 2^16.
 const HALF_WORD: u16 = 0x801;
 
-/// The distances over what DIV and MOD do where the divisor isn't 0.
+/// The distance over what DIV does where the divisor isn't 0.
 const DIV_WORDS: i32 = 25;
 
+/// The distance over what MOD does where the divisor isn't 0.
 const MOD_WORDS: i32 = 25;
 
 /// The items of the routine that divides words.

@@ -4,7 +4,8 @@ ghost use Rattle.runtime_lib.specs.Routines.{routines_count, with_piece};
 ghost use Rattle.runtime_lib.specs.Writing.{run, some_spaces, line_end, string_out, closing_text, to_field, to_tab};
 
 use crate::instructions::{
-    add, back, branch, call, cmp, data, ldr, ldrb, mov, mul, rsb, single, store, sub, swi,
+    BASE, COLUMN, add, back, branch, call, cmp, data, ldr, ldrb, mov, mul, rsb, single, store, sub,
+    swi,
 };
 use crate::labels::{DECIMAL_NUMBER, RUN};
 use arm_isa::Instr;
@@ -12,12 +13,6 @@ use arm_isa::numbers::{ADD, AL, CMP, EQ, HI, MOV, RSB, SUB};
 use arm2_machine::{SWI_END, SWI_NEW_LINE, SWI_WRITE};
 use bv_base::NoMemory;
 use code_frag::{Frag, Item};
-
-/// The register that has the residents' address.
-const BASE: u8 = 11;
-
-/// Where the column stands, from the residents on, in bytes.
-const COLUMN: u16 = 108;
 
 /// The items of the routine that writes R1 spaces.
 static SPACES: [Item; 7] = [
