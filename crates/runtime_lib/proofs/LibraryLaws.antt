@@ -1,15 +1,16 @@
 -- Wherever the library stands, each routine meets its contract.
-use Rattle.std.proofs.Common.{◌≡◌, ℕ, zero, suc, ◌+◌, ◌-◌, ◌*◌, ◌<◌, ◌≤◌, List, [], ◌∷◌, length, map, nat_lt, true, slice_get, Option, Some, None, refl, sym, subst, arith, ltb-true, length-append}
+use Rattle.std.proofs.Common.{◌≡◌, ℕ, zero, suc, ◌+◌, ◌-◌, ◌*◌, ◌<◌, ◌≤◌, List, [], ◌∷◌, ◌++◌, length, map, nat_lt, true, slice_get, Option, Some, None, refl, sym, subst, ◌∙◌, arith, ltb-true, length-append}
 use Rattle.std.specs.List.{list_all}
 use Rattle.std.proofs.lemmas.Bool.{false≢true, and_parts}
 use Rattle.std.proofs.lemmas.List.{length-map}
 use Rattle.arm_core.specs.Core.{Core}
+use Rattle.code_frag.specs.declared.item.Item.{Item}
 use Rattle.code_frag.specs.Demands.{ToLabel, Out, Leaves}
 use Rattle.code_frag.specs.Language.{items, jump_to, size}
 use Rattle.code_frag.specs.Runs.{Stands, IsCode, Meets, MeetEach}
 use Rattle.code_frag.specs.Words.{FragState, AllPlaced, is_placed, place_of, shifted_item, joined}
 use Rattle.code_frag.proofs.Branches.{stands_front, stands_after, length-items}
-use Rattle.code_frag.proofs.JoinLaws.{stands-joined, address-joined, meets-moved}
+use Rattle.code_frag.proofs.JoinLaws.{stands_shifted, stands-joined, address-joined, meets-moved}
 use Rattle.code_frag.proofs.Sound.{entered}
 use Rattle.code_frag.proofs.WordLaws.{label_address}
 use Rattle.runtime_lib.specs.Digits.{decimal_number, hexadecimal_number}
@@ -220,6 +221,20 @@ library-placed = refl
 pub library-labels : length library.places ≡ routines_count
 unfolding library
 library-labels = refl
+
+-- the library stands where its items, with labels after n others, stand among those of other code
+pub library-within : (front back : List Item) (n : ℕ) (code entry : ℕ → ℕ) (base : ℕ) → IsCode base (length (front ++ (map (shifted_item n) library.items ++ back))) → Stands (front ++ (map (shifted_item n) library.items ++ back)) code entry base
+    → ((label : ℕ) → label < routines_count → entry (label + n) ≡ base + 4 * (length front + place_of library.places label)) → LibraryStands code entry (base + 4 * length front) n
+library-within front back n code entry base lies stands at =
+    let mine = map (shifted_item n) library.items in
+    let count = length-append front (mine ++ back) in
+    let counts = length-append mine back in
+    let same = length-map library.items (shifted_item n) in
+    record {
+      lies = record { low = omega (arith, lies.low); aligned = omega (arith, lies.aligned); high = omega (arith, lies.high, count, counts, same) };
+      stands = stands_shifted library.items n code entry (base + 4 * length front) (stands_front mine back code entry (base + 4 * length front) (stands_after front (mine ++ back) code entry base stands));
+      entries = λ label within. at label within ∙ (let e : base + 4 * (length front + place_of library.places label) ≡ base + 4 * length front + 4 * place_of library.places label = omega arith in e);
+    }
 
 -- the library stands where it is joined to other code whose items stand
 pub library-joined : (a : FragState) (code : ℕ → ℕ) (base : ℕ) → IsCode base (length (joined a library).items) → Stands (joined a library).items code (label_address (joined a library).places base) base
