@@ -4,8 +4,9 @@
 
 mod digits;
 mod errors;
+pub mod ids;
 mod instructions;
-mod labels;
+pub mod labels;
 mod laws;
 mod library;
 mod numbers;

@@ -6,6 +6,7 @@ ghost use Rattle.runtime_lib.specs.Library.{with_routine, with_routines, numbers
 ghost use Rattle.runtime_lib.specs.Routines.{routines_count};
 
 use crate::digits::{emit_decimal_number, emit_hexadecimal_number};
+use crate::ids;
 use crate::labels::{
     CLOSING_TEXT, DECIMAL_NUMBER, DIVISION, HEXADECIMAL_NUMBER, LINE_END, MODULUS, PRODUCT,
     QUOTIENT, RUN, SOME_SPACES, STRING_OUT, TO_FIELD, TO_TAB,
@@ -197,41 +198,50 @@ fn entries(alloc: Global) -> Result<Vec<Entry>, NoMemory>
     Ok(Vec::from_array(
         alloc,
         [
-            Entry { id: 1, at: PRODUCT },
             Entry {
-                id: 2,
+                id: ids::PRODUCT,
+                at: PRODUCT,
+            },
+            Entry {
+                id: ids::QUOTIENT,
                 at: QUOTIENT,
             },
-            Entry { id: 3, at: MODULUS },
             Entry {
-                id: 4,
+                id: ids::MODULUS,
+                at: MODULUS,
+            },
+            Entry {
+                id: ids::DECIMAL_NUMBER,
                 at: DECIMAL_NUMBER,
             },
             Entry {
-                id: 5,
+                id: ids::HEXADECIMAL_NUMBER,
                 at: HEXADECIMAL_NUMBER,
             },
             Entry {
-                id: 6,
+                id: ids::SOME_SPACES,
                 at: SOME_SPACES,
             },
             Entry {
-                id: 7,
+                id: ids::LINE_END,
                 at: LINE_END,
             },
             Entry {
-                id: 8,
+                id: ids::STRING_OUT,
                 at: STRING_OUT,
             },
             Entry {
-                id: 9,
+                id: ids::CLOSING_TEXT,
                 at: CLOSING_TEXT,
             },
             Entry {
-                id: 17,
+                id: ids::TO_FIELD,
                 at: TO_FIELD,
             },
-            Entry { id: 18, at: TO_TAB },
+            Entry {
+                id: ids::TO_TAB,
+                at: TO_TAB,
+            },
         ],
     )?)
 }
