@@ -2,7 +2,7 @@
 use Rattle.std.specs.Prelude.{◌≡◌, ◌⊎◌, ℕ, zero, suc, ◌+◌, ◌/◌, ◌%◌, ◌<◌, ◌≤◌, ◌==◌, not, ℤ, pos, List, [], ◌∷◌, ◌++◌, length, flat_map, slice_get, Option, None, Some, Result, Ok, Err}
 use Rattle.std.specs.Int.{w32, cast_signed}
 use Rattle.bas_ast.specs.declared.expressions.NumberFormat.TheVariants as formats
-use Rattle.bas_value.specs.Errors.{NumberedText, error_texts, error_text}
+use Rattle.bas_value.specs.Errors.{error_texts, error_text}
 use Rattle.bas_value.specs.Output.{Part, Number, Text, Field, NewLine, Spaces, Tab, Closing, part_bytes, column_after, spaces}
 use Rattle.bv_base.specs.MemoryMap.{ram_end}
 use Rattle.bv_num.specs.Operation.{operation, Multiply, Divide, Remainder}

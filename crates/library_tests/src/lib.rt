@@ -1,0 +1,9 @@
+//! The tests of the run-time library on the board, by its public calls alone.
+#![tactic(auto)]
+
+#[cfg(test)]
+mod boards;
+#[cfg(test)]
+mod entries;
+#[cfg(test)]
+mod errors;
