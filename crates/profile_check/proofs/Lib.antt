@@ -9,3 +9,9 @@ pub mod Verdicts
 pub mod Decided
 pub mod FileVerdicts
 pub mod ShortTexts
+pub mod Dataless
+pub mod DataTails
+pub mod NameTables
+pub mod LineTexts
+pub mod LineSizes
+pub mod WellFormedPrograms
