@@ -4,6 +4,7 @@ pub mod NumberSteps
 pub mod Cuts
 pub mod Profiles
 pub mod EndLaws
+pub mod StructureRows
 pub mod LineSteps
 pub mod Verdicts
 pub mod Decided
