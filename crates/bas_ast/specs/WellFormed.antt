@@ -101,6 +101,8 @@ pub record WellFormed (prog : Prog) : Type 0 where
   pub few_names : length prog.names ≤ limit.names
   -- the texts are those of its string literals in order
   pub texts : flat_map literals symbols ≡ range_with_len 0 (length prog.texts)
+  pub short_texts : All (λ text. length text ≤ limit.longest_text) prog.texts
   pub closed : IsClosed (all_items prog)
   pub data_items : IsDataOf 0 prog.lines 0 prog.data_items
+  pub short_data : All (λ d. length d.text ≤ limit.longest_text) prog.data_items
   pub size : total_weight prog symbols ≤ prog.size

@@ -4,10 +4,12 @@ ghost use Rattle.std.specs.Prelude.{◌≡◌};
 ghost use Rattle.expr_parse.specs.Nests.{Reads};
 ghost use Rattle.bas_parse.specs.Statements as spec;
 
+use crate::kept::{nothing, then, with};
 use crate::marks::equals;
+use crate::rows::{ANumber, ATarget, AText};
 use crate::targets::target;
-use bas_ast::{Assignment, BinaryOp, Comparison, Target, Terminal};
-use expr_parse::{Front, comma, longest_num, longest_text};
+use bas_ast::{Assignment, BinaryOp, Comparison, NumTarget, StrTarget, Target, Terminal};
+use expr_parse::{Front, comma};
 use std::alloc::Global;
 
 /// A value for a target after `=`.
@@ -17,15 +19,17 @@ fn stored(alloc: Global, target: Target, list: &[Terminal]) -> Front<'_, Assignm
 {
     match target {
         Target::Number(number) => {
-            let Some((x, rest)) = longest_num(alloc, list)? else {
+            let Some((both, rest)) = then::<NumTarget, ANumber>(alloc, number, list)? else {
                 return Ok(None);
             };
+            let (number, x) = both;
             Ok(Some((Assignment::Number(number, x), rest)))
         }
         Target::Text(text) => {
-            let Some((y, rest)) = longest_text(alloc, list)? else {
+            let Some((both, rest)) = then::<StrTarget, AText>(alloc, text, list)? else {
                 return Ok(None);
             };
+            let (text, y) = both;
             Ok(Some((Assignment::Text(text, y), rest)))
         }
     }
@@ -38,15 +42,17 @@ fn added(alloc: Global, target: Target, list: &[Terminal]) -> Front<'_, Assignme
 {
     match target {
         Target::Number(number) => {
-            let Some((x, rest)) = longest_num(alloc, list)? else {
+            let Some((both, rest)) = then::<NumTarget, ANumber>(alloc, number, list)? else {
                 return Ok(None);
             };
+            let (number, x) = both;
             Ok(Some((Assignment::Add(number, x), rest)))
         }
         Target::Text(text) => {
-            let Some((y, rest)) = longest_text(alloc, list)? else {
+            let Some((both, rest)) = then::<StrTarget, AText>(alloc, text, list)? else {
                 return Ok(None);
             };
+            let (text, y) = both;
             Ok(Some((Assignment::Append(text, y), rest)))
         }
     }
@@ -59,12 +65,13 @@ fn subtracted(alloc: Global, target: Target, list: &[Terminal]) -> Front<'_, Ass
 {
     match target {
         Target::Number(number) => {
-            let Some((x, rest)) = longest_num(alloc, list)? else {
+            let Some((both, rest)) = then::<NumTarget, ANumber>(alloc, number, list)? else {
                 return Ok(None);
             };
+            let (number, x) = both;
             Ok(Some((Assignment::Subtract(number, x), rest)))
         }
-        Target::Text(_) => Ok(None),
+        Target::Text(text) => Ok(nothing(text)),
     }
 }
 
@@ -80,7 +87,7 @@ fn signed(alloc: Global, target: Target, list: &[Terminal]) -> Front<'_, Assignm
         ] => { stored(alloc, target, rest) }
         [Terminal::PlusEquals, rest @ ..] => added(alloc, target, rest),
         [Terminal::MinusEquals, rest @ ..] => subtracted(alloc, target, rest),
-        _ => Ok(None),
+        _ => Ok(nothing(target)),
     }
 }
 
@@ -103,7 +110,7 @@ pub fn let_assignment(alloc: Global, list: &[Terminal]) -> Front<'_, Assignment>
     let Some((target, rest)) = target(alloc, list)? else {
         return Ok(None);
     };
-    let Some(after) = equals(rest) else {
+    let Some((target, after)) = with(target, equals(rest)) else {
         return Ok(None);
     };
     stored(alloc, target, after)
@@ -116,10 +123,10 @@ fn swapped(left: Target, right: Target) -> Option<Assignment>
     match left {
         Target::Number(left) => match right {
             Target::Number(right) => Some(Assignment::SwapNumbers(left, right)),
-            Target::Text(_) => None,
+            Target::Text(right) => nothing((left, right)),
         },
         Target::Text(left) => match right {
-            Target::Number(_) => None,
+            Target::Number(right) => nothing((left, right)),
             Target::Text(right) => Some(Assignment::SwapTexts(left, right)),
         },
     }
@@ -130,9 +137,10 @@ fn swapped(left: Target, right: Target) -> Option<Assignment>
 fn swap_with(alloc: Global, left: Target, list: &[Terminal]) -> Front<'_, Assignment>
     ensures { Reads (spec.swap_with left list.now) result }
 {
-    let Some((right, rest)) = target(alloc, list)? else {
+    let Some((both, rest)) = then::<Target, ATarget>(alloc, left, list)? else {
         return Ok(None);
     };
+    let (left, right) = both;
     match swapped(left, right) {
         Some(swap) => Ok(Some((swap, rest))),
         None => Ok(None),
@@ -147,7 +155,7 @@ pub fn swap(alloc: Global, list: &[Terminal]) -> Front<'_, Assignment>
     let Some((left, rest)) = target(alloc, list)? else {
         return Ok(None);
     };
-    let Some(after) = comma(rest) else {
+    let Some((left, after)) = with(left, comma(rest)) else {
         return Ok(None);
     };
     swap_with(alloc, left, after)

@@ -3,7 +3,9 @@
 ghost use Rattle.expr_parse.specs.Nests.{Reads};
 ghost use Rattle.bas_parse.specs.Statements as spec;
 
+use crate::kept::{then, with};
 use crate::marks::{equals, step_word, to_word};
+use crate::rows::ANumber;
 use crate::targets::int_name;
 use bas_ast::{Flow, NumExpr, Stmt, Terminal};
 use expr_parse::{Front, longest_num};
@@ -23,9 +25,12 @@ fn for_step(
     let Some(after) = step_word(list) else {
         return Ok(Some((Stmt::Flow(Flow::For(name, start, limit, None)), list)));
     };
-    let Some((step, rest)) = longest_num(alloc, after)? else {
+    let bounds = (start, limit);
+    let Some((all, rest)) = then::<(NumExpr, NumExpr), ANumber>(alloc, bounds, after)? else {
         return Ok(None);
     };
+    let (bounds, step) = all;
+    let (start, limit) = bounds;
     Ok(Some((Stmt::Flow(Flow::For(name, start, limit, Some(step))), rest)))
 }
 
@@ -34,9 +39,10 @@ fn for_step(
 fn for_limit(alloc: Global, name: u16, start: NumExpr, list: &[Terminal]) -> Front<'_, Stmt>
     ensures { Reads (spec.for_limit name start list.now) result }
 {
-    let Some((limit, rest)) = longest_num(alloc, list)? else {
+    let Some((both, rest)) = then::<NumExpr, ANumber>(alloc, start, list)? else {
         return Ok(None);
     };
+    let (start, limit) = both;
     for_step(alloc, name, start, limit, rest)
 }
 
@@ -48,7 +54,7 @@ fn for_start(alloc: Global, name: u16, list: &[Terminal]) -> Front<'_, Stmt>
     let Some((start, rest)) = longest_num(alloc, list)? else {
         return Ok(None);
     };
-    let Some(after) = to_word(rest) else {
+    let Some((start, after)) = with(start, to_word(rest)) else {
         return Ok(None);
     };
     for_limit(alloc, name, start, after)

@@ -6,6 +6,7 @@
 mod assignments;
 mod for_loop;
 mod formals;
+mod kept;
 mod laws;
 mod lines;
 mod marks;

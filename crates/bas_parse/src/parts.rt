@@ -5,6 +5,7 @@ ghost use Rattle.expr_parse.specs.Nests.{Reads};
 ghost use Rattle.bas_ast.specs.Statements.{input_target};
 ghost use Rattle.bas_parse.specs.Statements as spec;
 
+use crate::kept::with;
 use crate::marks::{ended, joins, semicolon, separator};
 use crate::targets::target;
 use bas_ast::{Any, InputPart, Keyword, NumberFormat, PrintPart, Target, Terminal, VduPart};
@@ -55,7 +56,7 @@ fn tab(alloc: Global, list: &[Terminal]) -> Front<'_, (PrintPart, bool)>
     let Some((x, rest)) = longest_num(alloc, list)? else {
         return Ok(None);
     };
-    let Some(after) = close(rest) else {
+    let Some((x, after)) = with(x, close(rest)) else {
         return Ok(None);
     };
     Ok(Some(((PrintPart::Tab(x), false), after)))

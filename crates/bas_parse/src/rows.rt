@@ -4,12 +4,15 @@ ghost use Rattle.std.specs.Prelude.{[]};
 ghost use Rattle.bas_ast.specs.declared.expressions.Any.{Any};
 ghost use Rattle.expr_parse.specs.Nests.{Reads};
 ghost use Rattle.expr_parse.specs.Operands as expression;
+ghost use Rattle.bas_ast.specs.declared.expressions.NumExpr.{NumExpr};
+ghost use Rattle.bas_ast.specs.declared.expressions.StrExpr.{StrExpr};
+ghost use Rattle.expr_parse.specs.Parse as parse;
 ghost use Rattle.expr_parse.specs.Parse.{Parser};
 ghost use Rattle.bas_parse.specs.Operands as spec;
 
 use crate::targets::{dim_part, int_name, line, simple, target};
-use bas_ast::{Any, DimPart, SimpleVariable, Target, Terminal};
-use expr_parse::{Front, comma, longest_any};
+use bas_ast::{Any, DimPart, NumExpr, SimpleVariable, StrExpr, Target, Terminal};
+use expr_parse::{Front, comma, longest_any, longest_num, longest_text};
 use sqlite_items::Items;
 use std::alloc::Global;
 
@@ -43,6 +46,32 @@ pub fn list_of<O: Operand>(alloc: Global, list: &[Terminal]) -> Front<'_, Items<
         rest = after_comma;
     }
     Ok(None)
+}
+
+/// A number.
+pub struct ANumber;
+
+impl Operand for ANumber {
+    type Tree = NumExpr;
+
+    ghost at_front = { parse.longest_num };
+
+    fn operand(alloc: Global, list: &[Terminal]) -> Front<'_, NumExpr> {
+        longest_num(alloc, list)
+    }
+}
+
+/// A string.
+pub struct AText;
+
+impl Operand for AText {
+    type Tree = StrExpr;
+
+    ghost at_front = { parse.longest_text };
+
+    fn operand(alloc: Global, list: &[Terminal]) -> Front<'_, StrExpr> {
+        longest_text(alloc, list)
+    }
 }
 
 /// An expression of either kind.
@@ -120,5 +149,18 @@ impl Operand for ALine {
 
     fn operand(_alloc: Global, list: &[Terminal]) -> Front<'_, u16> {
         Ok(line(list))
+    }
+}
+
+/// References to lines, with commas between.
+pub struct Lines;
+
+impl Operand for Lines {
+    type Tree = Items<u16>;
+
+    ghost at_front = { spec.list_of spec.line_at };
+
+    fn operand(alloc: Global, list: &[Terminal]) -> Front<'_, Items<u16>> {
+        list_of::<ALine>(alloc, list)
     }
 }

@@ -4,9 +4,10 @@ ghost use Rattle.std.specs.Prelude.{◌≡◌};
 ghost use Rattle.expr_parse.specs.Nests.{Reads};
 ghost use Rattle.bas_parse.specs.Steps as spec;
 
+use crate::kept::{nothing, then};
 use crate::marks::{continues, ended};
 use crate::place::Place;
-use crate::rows::{ALine, list_of};
+use crate::rows::Lines;
 use crate::statements::stmt;
 use bas_ast::{Any, ErrorStmt, Flow, Item, Jump, Keyword, NumExpr, Stmt, Terminal};
 use expr_parse::{Front, longest_any, longest_num};
@@ -54,9 +55,10 @@ fn if_step(alloc: Global, list: &[Terminal]) -> Front<'_, Step>
 fn lines_step(alloc: Global, x: NumExpr, jump: Jump, list: &[Terminal]) -> Front<'_, Step>
     ensures { Reads (spec.lines_step x jump list.now) result }
 {
-    let Some((lines, rest)) = list_of::<ALine>(alloc, list)? else {
+    let Some((both, rest)) = then::<NumExpr, Lines>(alloc, x, list)? else {
         return Ok(None);
     };
+    let (x, lines) = both;
     Ok(Some((
         (Some(Item::On(x, jump, lines)), Place::after_ruling()),
         rest,
@@ -71,7 +73,7 @@ fn jump_step(alloc: Global, x: NumExpr, list: &[Terminal]) -> Front<'_, Step>
     match list {
         [Terminal::Keyword(Keyword::Goto), rest @ ..] => lines_step(alloc, x, Jump::Goto, rest),
         [Terminal::Keyword(Keyword::Gosub), rest @ ..] => lines_step(alloc, x, Jump::Gosub, rest),
-        _ => Ok(None),
+        _ => Ok(nothing(x)),
     }
 }
 
@@ -160,10 +162,10 @@ fn case_of(place: Place, x: Any, list: &[Terminal]) -> Front<'_, Step>
                 let none = &rest[rest.len()..];
                 Ok(Some(((Some(Item::Case(x)), place.after_item()), none)))
             } else {
-                Ok(None)
+                Ok(nothing(x))
             }
         }
-        _ => Ok(None),
+        _ => Ok(nothing(x)),
     }
 }
 

@@ -7,11 +7,12 @@ ghost use Rattle.bas_ast.specs.Statements.{form};
 ghost use Rattle.bas_parse.specs.Statements as spec;
 ghost use Rattle.bas_parse.specs.Words.{number_stmt};
 
+use crate::kept::{then, with};
 use crate::marks::error_word;
-use crate::rows::{ADimPart, ATarget, AVariable, list_of};
+use crate::rows::{ADimPart, ATarget, AText, AVariable, list_of};
 use crate::targets::line;
 use bas_ast::{Call, ErrorStmt, Flow, Keyword, NumExpr, Output, Stmt, Terminal};
-use expr_parse::{Front, comma, longest_num, longest_text};
+use expr_parse::{Front, comma, longest_num};
 use std::alloc::Global;
 
 /// A word before one number.
@@ -75,9 +76,10 @@ pub fn gosub(list: &[Terminal]) -> Front<'_, Stmt>
 fn raise_text(alloc: Global, number: NumExpr, list: &[Terminal]) -> Front<'_, Stmt>
     ensures { Reads (spec.raise_text number list.now) result }
 {
-    let Some((text, rest)) = longest_text(alloc, list)? else {
+    let Some((both, rest)) = then::<NumExpr, AText>(alloc, number, list)? else {
         return Ok(None);
     };
+    let (number, text) = both;
     Ok(Some((Stmt::Error(ErrorStmt::Raise(number, text)), rest)))
 }
 
@@ -89,7 +91,7 @@ pub fn raise(alloc: Global, list: &[Terminal]) -> Front<'_, Stmt>
     let Some((number, rest)) = longest_num(alloc, list)? else {
         return Ok(None);
     };
-    let Some(after) = comma(rest) else {
+    let Some((number, after)) = with(number, comma(rest)) else {
         return Ok(None);
     };
     raise_text(alloc, number, after)

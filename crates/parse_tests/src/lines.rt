@@ -1,6 +1,8 @@
 //! Which lines are accepted.
 
-use crate::rows::{ACCEPTED, REFUSED_CALLS, REFUSED_LINES, REFUSED_PARTS, REFUSED_VALUES};
+use crate::rows::{
+    ACCEPTED, OF_PROGRAMS, REFUSED_CALLS, REFUSED_LINES, REFUSED_PARTS, REFUSED_VALUES,
+};
 use bas_ast::Item;
 use bas_lex::symbols;
 use bas_parse::parse_line;
@@ -56,6 +58,14 @@ pub fn parsed(alloc: Global, body: &str) -> Result<Items<Item>, ParseError> {
 #[test]
 fn accepted(rt: HostRuntime) -> Result<(), Fail> {
     for row in &ACCEPTED {
+        assert!(rt; parsed(rt.alloc(), row).is_ok(), "{row}");
+    }
+    Ok(())
+}
+
+#[test]
+fn of_programs(rt: HostRuntime) -> Result<(), Fail> {
+    for row in &OF_PROGRAMS {
         assert!(rt; parsed(rt.alloc(), row).is_ok(), "{row}");
     }
     Ok(())

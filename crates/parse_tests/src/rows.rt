@@ -37,6 +37,45 @@ pub static ACCEPTED: [&str; 166] = [
     "[", "CLS : [", "IF a% THEN [",
 ];
 
+/// Lines of seven programs with loops, blocks, ON and DATA, which an independent reference made.
+#[rattlefmt::skip]
+pub static OF_PROGRAMS: [&str; 92] = [
+    " k%=3:i%=3:n%=2:x%=6:_v1%=1:`%=1", " CASE (n% MOD 64) AND 3 OF", "WHEN 2,1", " OTHERWISE PRINT ;;", " ENDCASE",
+    "g3%=0",
+    " g3%+=1:n%-=&AE5 MOD (E% OR 1):`%=(&3FD) AND &FFFF:IF (_v1% MOD 64)-`% FOR i%=-1 TO -2 STEP -1:RESTORE 3322:NEXT ELSE F%=225",
+    " IF g3%>=5 THEN 2554", "GOTO 1786",
+    " PRINT;A%;\" \";B%;\" \";C%;\" \";D%;\" \";E%;\" \";F%;\" \";G%;\" \";H%;\" \";i%;\" \";n%;\" \";x%;\" \";@%;\" \";_v1%;\" \";`%;\" \";COUNT",
+    "QUIT", " DATA   x y ,-94,&100000000", "DATA\"q,r\",664,a\"b", "k%=3:i%=3:n%=11:x%=4:_v1%=10:`%=1",
+    "`%=-n% MOD (x% OR 1) + @%-H%<=ABS _v1%", "IF `%+(D% MOD 2) DIV (G% OR 1)<<4 THEN",
+    " PRINT SPC 7 \" 12\" \"ab\":VDU 85:`%=(TRUE) AND &FFFF", "PRINT \"a\"\"b\" \"ab\" TAB(18) ' ~D%:x%=(@%) AND &FFFF",
+    " ENDIF:PRINT TAB(G% -8) ; ;", "g4%=0", " g4%+=1:D%=n%+-E% + (NOT B% OR 2)", " IF g4%>=18 THEN ELSE GOTO 8",
+    "IF ((((((((((((((((((((2)))))))))))))))))))) THEN PRINT \"y\" ELSE PRINT \"n\"", " FOR i%=1 TO 2:UNTIL TRUE",
+    "PRINT \"still\":END", " PRINT 744>>33 \"zz;'\" \"hello\" 0;:A%=9 MOD (FALSE OR 1) -C%>>>256", "RETURN",
+    "C%=E% AND B%:E%=(F%) AND &FFFF", " DATA-33,+5,--1,453", "k%=3:i%=10:n%=9:x%=-1:_v1%=1:`%=8", " GOTO 4",
+    "MODE -C%:GOTO 5", " PRINT \"b\":GOTO 3", "@%=INT-2:GOTO 6", " PRINT SGN (&7FFFFFFF);&0000ffff>>>&0000ffff",
+    "@%=(+632<E%+FALSE) AND &FFFF", "PRINT ; &80000001 SPC 9 ; 3", "REPEAT:ENDWHILE", " DATA", "DATA abc, 7,12abc,-46,10",
+    " k%=3:i%=11:n%=1:x%=12:_v1%=11:`%=7", " CLS:PRINT COUNT", "FOR q0_0%=3 TO 6", "PRINT",
+    " B%=C% MOD (n% OR 1):IF k% DIV ((A% MOD 2) OR 1) DIV 3+(G% MOD 5)<<-1 AND (_v1% MOD 2) THEN PRINT ~%1111111111111111+&FF,1073741824>>&FFFFFFF6,%11111<<3",
+    "NEXT", " q0_0%=0", " WHILE q0_0%<0", "q0_0%+=1", "B%=G% DIV (G% OR 1)-F%>>>31 AND G%+i% -`%:PRINT ~%100000>=&8000",
+    " PRINT n% AND @% \"zz;'\" 9 \"a\" ':FOR fl%=2 TO 2:READ x%:NEXT", " ENDWHILE",
+    " IF (E% MOD 64) THEN D%=(C% -`% -B% MOD (x% OR 1)) AND &FFFF", "ON 0 GOSUB 3834", " PRINT \"still\":END",
+    "n%=(`%+A%+COUNT) AND &FFFF:F%=%11111111111111111111111111111110 = 7:LET A%=(n% AND _v1%) AND &FFFF",
+    "DATA&100000000,-2,&80000000,687", " DATA &fF0,791,636", " k%=3:i%=-1:n%=8:x%=0:_v1%=3:`%=9",
+    "B%=(A% -x%):n%=(0>>>n%) AND &FFFF", " IF 20+(A% MOD 2) MOD ((`% MOD 5) OR 1) THEN", "REM",
+    " ELSE n%=(&69C) AND &FFFF", " RESTORE 160", " PRINT \"1,2\":i%=COUNT:F%=8", "ENDIF",
+    " IF (F% MOD 2) PRINT 0; ELSE:IF (i% MOD 64) + D% B%-=1:PRINT \"e\";COUNT",
+    "PRINT;A%;\" \";B%;\" \";C%;\" \";D%;\" \";E%;\" \";F%;\" \";G%;\" \";H%;\" \";i%;\" \";n%;\" \";x%;\" \";@%;\" \";_v1%;\" \";`%;\" \";COUNT",
+    "END", "_v1%=(6) AND &FFFF:A%=(`%) AND &FFFF",
+    "F%=(F% MOD (&0 OR 1)+&6A9 AND &F60) AND &FFFF:PRINT \"a\" TAB(6 EOR D%):IF H% B%=(H%) AND &FFFF", " RETURN",
+    " DATA -2,850,\"open, 7", " DATA 801,-2,--1", " k%=3:i%=0:n%=1:x%=-3:_v1%=9:`%=2", "g5%=0",
+    " g5%+=1:x%=(_v1%) AND &FFFF", " IF g5%>=6 THEN ELSE GOTO 762",
+    " PRINT ~(&FFFF8000)>>&FFFF4AFB,NOT &FFFF,(&10000)<<2,~SGN &80000000", " STOP", " F%=COUNT>>256", "DATA",
+    " DATA &80000000,571,480,1,&fF0", "DATA 706", "k%=3:i%=5:n%=-2:x%=2:_v1%=-1:`%=3",
+    " PRINT ;%11111111111111111111111111111111<-46341'NOT-2147483647", " PRINT \"-7\" \"\":PRINT ; \"a\":PRINT;",
+    "F%=(8+3 + n%) AND &FFFF:VDU H%,73;_v1%;:IF _v1% AND (H% MOD 5)>>>256 THEN PRINT (&FFFFFFFE)>>>&3b9aca00", "PRINT '",
+    " COLOUR `%", " PRINT ;INT-2147483647;~(&2) DIV -2147483647:G%=(D%) AND &FFFF", " DATA &,916",
+];
+
 /// Lines outside it, of assignments and IF.
 #[rattlefmt::skip]
 pub static REFUSED_VALUES: [&str; 170] = [

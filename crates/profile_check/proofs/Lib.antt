@@ -4,8 +4,15 @@ pub mod NumberSteps
 pub mod Cuts
 pub mod Profiles
 pub mod EndLaws
+pub mod StructureRows
 pub mod LineSteps
 pub mod Verdicts
 pub mod Decided
 pub mod FileVerdicts
 pub mod ShortTexts
+pub mod Dataless
+pub mod DataTails
+pub mod NameTables
+pub mod LineTexts
+pub mod LineSizes
+pub mod WellFormedPrograms

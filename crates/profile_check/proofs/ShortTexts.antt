@@ -1,5 +1,5 @@
 -- That the texts of a program's string literals are no longer than its lines.
-use Rattle.std.proofs.Common.{◌≡◌, ℕ, ◌+◌, ◌-◌, ◌*◌, ◌≤◌, ◌<◌, Bool, true, false, ◌==◌, List, [], ◌∷◌, ◌++◌, Option, Some, None, length, take, drop, slice_range, if◌then◌else◌, refl, sym, ap, subst, arith, length-drop}
+use Rattle.std.proofs.Common.{ℕ, ◌+◌, ◌-◌, ◌≤◌, Bool, true, false, ◌==◌, List, [], ◌∷◌, ◌++◌, Option, Some, None, length, drop, slice_range, if◌then◌else◌, sym, subst, arith, length-drop}
 use Rattle.std.specs.List.{AllByRecursion}
 use Rattle.std.proofs.lemmas.List.{length-take}
 use Rattle.token_file.specs.declared.line.Line.{Line}
@@ -9,10 +9,10 @@ use Rattle.bas_ast.specs.declared.program.ProgLine.{ProgLine}
 use Rattle.bas_ast.specs.declared.program.Prog.{Prog}
 use Rattle.bas_ast.specs.declared.terminals.Terminal.{Terminal}
 use Rattle.bas_ast.specs.declared.terminals.Terminal.TheVariants as t
-use Rattle.profile_check.specs.Cutting.{Cut, IsCut, with_symbols}
+use Rattle.profile_check.specs.Cutting.{Cut, IsCut}
 use Rattle.profile_check.specs.Names.{name_of}
 use Rattle.profile_check.specs.Programs.{IsProgram, AreLines, labels_of, numbered}
-use Rattle.profile_check.specs.Tables.{Lists, Numbered, NumberedLine, no_lists, number_name, number_terminal, number_line, is_data}
+use Rattle.profile_check.specs.Tables.{Lists, no_lists, number_name, number_terminal, number_line, is_data}
 use Rattle.profile_check.specs.Texts.{quotation_mark, quoted_from, literal_text}
 
 -- each text has at most as many bytes
@@ -27,7 +27,7 @@ short_after : (is_mark : Bool) (c : ℕ) (xs rest : List ℕ) → length xs ≤ 
 short_after true c xs rest x = omega (arith, x)
 short_after false c xs rest x = omega arith
 
-quoted_short : (after_mark : Bool) (bytes : List ℕ) → length (quoted_from after_mark bytes) ≤ length bytes
+pub quoted_short : (after_mark : Bool) (bytes : List ℕ) → length (quoted_from after_mark bytes) ≤ length bytes
 quoted_short after_mark [] = omega arith
 quoted_short false (c ∷ rest) = short_by (c == quotation_mark) c (quoted_from true rest) (quoted_from false rest) rest (quoted_short true rest) (quoted_short false rest)
 quoted_short true (c ∷ rest) = short_after (c == quotation_mark) c (quoted_from false rest) rest (quoted_short false rest)
@@ -36,7 +36,7 @@ literal_short : (bytes : List ℕ) → length (literal_text bytes) ≤ length by
 literal_short [] = omega arith
 literal_short (mark ∷ rest) = omega (arith, quoted_short false rest)
 
-part_short : (text : List ℕ) (from to : ℕ) → length (slice_range text from to) ≤ length text
+pub part_short : (text : List ℕ) (from to : ℕ) → length (slice_range text from to) ≤ length text
 part_short text from to = omega (arith, length-take (to - from) (drop from text), length-drop from text)
 
 one_short_more : (most : ℕ) (texts : List (List ℕ)) (text : List ℕ) → AreShort most texts → length text ≤ most → AreShort most (texts ++ text ∷ [])

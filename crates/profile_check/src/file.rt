@@ -4,6 +4,7 @@ ghost use Rattle.std.specs.Prelude.{◌≡◌, ◌≤◌, ◌⊎◌, length, IfO
 ghost use Rattle.std.specs.List.{AllByRecursion};
 ghost use Rattle.bv_base.specs.declared.limits.TheConstants.{LONGEST_TEXT};
 ghost use Rattle.bas_ast.specs.declared.program.Prog.{Prog as Program};
+ghost use Rattle.bas_ast.specs.WellFormed.{WellFormed};
 ghost use Rattle.profile_check.specs.Files.{Accepted, Refused, FileExplained};
 ghost use Rattle.profile_check.specs.declared.refusal.Refusal.{Refusal as Reason};
 
@@ -31,6 +32,7 @@ impl From<FileError> for Refusal {
 /// The program that a file holds, or why it is refused.
 fn read_bytes(alloc: Global, bytes: &[u8]) -> Result<Prog, Refusal>
     ensures ok { IfOk result (Accepted bytes.now) }
+    ensures well_formed { IfOk result WellFormed }
     ensures texts { IfOk result (λ prog. AllByRecursion (λ text. length text ≤ LONGEST_TEXT) prog.texts) }
     ensures err { IfErr result (FileExplained bytes.now) }
 {
@@ -45,6 +47,7 @@ fn read_bytes(alloc: Global, bytes: &[u8]) -> Result<Prog, Refusal>
 /// lines are no program.
 pub fn read_program(alloc: Global, bytes: &[u8]) -> Result<Prog, Refusal>
     ensures accepted { IfOk result (Accepted bytes.now) }
+    ensures well_formed { IfOk result WellFormed }
     ensures texts { IfOk result (λ prog. AllByRecursion (λ text. length text ≤ LONGEST_TEXT) prog.texts) }
     ensures refused { IfErr result (FileExplained bytes.now) }
 

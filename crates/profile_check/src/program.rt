@@ -2,6 +2,7 @@
 
 ghost use Rattle.std.specs.Prelude.{◌≤◌, ◌<◌, ◌^◌, length, IfOk, IfErr};
 ghost use Rattle.std.specs.List.{AllByRecursion};
+ghost use Rattle.bas_ast.specs.WellFormed.{WellFormed};
 ghost use Rattle.profile_check.specs.Programs.{IsProgram, file_size};
 ghost use Rattle.profile_check.specs.Refused.{Explained};
 
@@ -25,6 +26,7 @@ pub fn check(alloc: Global, lines: &[Line]) -> Result<Prog, Refusal>
     requires short { AllByRecursion (λ line. length line.text ≤ LONGEST_TEXT) lines.now }
     requires small { file_size lines.now < 2 ^ 32 }
     ensures ok { IfOk result (IsProgram lines.now) }
+    ensures well_formed { IfOk result WellFormed }
     ensures texts { IfOk result (λ prog. AllByRecursion (λ text. length text ≤ LONGEST_TEXT) prog.texts) }
     ensures err { IfErr result (Explained lines.now) }
 {
