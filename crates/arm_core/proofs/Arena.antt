@@ -1,6 +1,7 @@
 -- The arena of a board is what a core has there.
 use Rattle.std.proofs.Common.{◌≡◌, ℕ, zero, suc, ◌+◌, ◌-◌, ◌<◌, ◌≤◌, List, [], ◌∷◌, length, take, drop, slice_index, refl, sym, ap, ◌∙◌, arith}
-use Rattle.bv_base.specs.MemoryMap.{arena_start, arena_end, arena_bytes}
+use Rattle.std.proofs.lemmas.List.{ext_get_or, get_or-take, get_or-drop, length-take-le, length-drop}
+use Rattle.bv_base.specs.MemoryMap.{ram_end, arena_start, arena_end, arena_bytes}
 use Rattle.arm2_cpu.specs.Memory.{byte_at}
 use Rattle.arm2_machine.specs.Machine.{Machine, arena_of}
 use Rattle.arm_core.specs.Core.{Core, IsAt}
@@ -21,7 +22,7 @@ same_part (suc n) (suc k) [] (y ∷ ys) long same = absurd (omega (arith, long))
 same_part (suc n) (suc k) (x ∷ xs) [] long same = absurd (omega (arith, long))
 same_part (suc n) (suc k) (x ∷ xs) (y ∷ ys) long same = same_part (suc n) k xs ys (omega (arith, long)) (λ i low high. same (suc i) (omega (arith, low)) (omega (arith, high)))
 
-byte_of : (s : Core) (pc : ℕ) (m : Machine) → IsAt s pc m → (a : ℕ) → slice_index m.ram a ≡ s.mem a
+pub byte_of : (s : Core) (pc : ℕ) (m : Machine) → IsAt s pc m → (a : ℕ) → slice_index m.ram a ≡ s.mem a
 unfolding byte_at
 byte_of s pc m is a = ap (slice_index m.ram) (let e : a ≡ a - 0 = omega arith in e) ∙ reads-byte s pc m is a
 
@@ -31,3 +32,15 @@ unfolding arena_of
 arena-same s t pc to m n is at same =
     same_part arena_bytes arena_start n.ram m.ram (at.ram ∙ sym is.ram)
     (λ i low high. byte_of t to n at i ∙ same i low (omega (arith, high)) ∙ sym (byte_of s pc m is i))
+
+-- the arena of a board whose core has these bytes there
+pub arena-is : (s : Core) (pc : ℕ) (m : Machine) (bytes : List ℕ) → IsAt s pc m → length bytes ≡ arena_bytes → ((k : ℕ) → k < arena_bytes → s.mem (arena_start + k) ≡ slice_index bytes k) → arena_of m.ram ≡ bytes
+unfolding arena_of
+arena-is s pc m bytes is long has =
+    let all = is.ram in
+    let rest = length-drop arena_start m.ram in
+    let whole : length (take arena_bytes (drop arena_start m.ram)) ≡ arena_bytes = length-take-le arena_bytes (drop arena_start m.ram) (omega (arith, rest, all)) in
+    ext_get_or 0 (take arena_bytes (drop arena_start m.ram)) bytes (whole ∙ sym long)
+    (λ i low.
+    let inside : i < arena_bytes = omega (arith, low, whole) in
+    get_or-take arena_bytes (drop arena_start m.ram) i 0 inside ∙ get_or-drop arena_start m.ram i 0 ∙ byte_of s pc m is (arena_start + i) ∙ has i inside)

@@ -43,7 +43,7 @@ placed-shifted count [] = refl
 placed-shifted count (None ∷ qs) = refl
 placed-shifted count (Some p ∷ qs) = placed-shifted count qs
 
-shifted_there : (qs : List (Option ℕ)) (count l p : ℕ) → slice_get qs l ≡ Some (Some p) → place_of (map (shifted_place count) qs) l ≡ p + count
+pub shifted_there : (qs : List (Option ℕ)) (count l p : ℕ) → slice_get qs l ≡ Some (Some p) → place_of (map (shifted_place count) qs) l ≡ p + count
 shifted_there [] count l p there = cc
 shifted_there (q ∷ qs) count zero p there =
     let is : q ≡ Some p = cc in

@@ -24,7 +24,7 @@ lines_short bytes [] read = tt
 lines_short bytes (l ∷ ls) read = (read.1.short, lines_short read.0 ls read.3)
 
 -- and their records no longer than it
-size_within : (bytes : List ℕ) (ls : List Line) → Lines bytes ls → file_size ls ≤ length bytes
+pub size_within : (bytes : List ℕ) (ls : List Line) → Lines bytes ls → file_size ls ≤ length bytes
 size_within bytes [] read = omega (arith, ap length read.1)
 size_within bytes (l ∷ ls) read =
     let more = size_within read.0 ls read.3 in

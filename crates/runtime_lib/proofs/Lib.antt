@@ -6,7 +6,7 @@ mod DivisionLaws
 mod DivisionProof
 mod ErrorSearch
 mod Leading
-mod LibraryLaws
+pub mod LibraryLaws
 mod LineEndProof
 mod NumberParts
 mod NumberProof

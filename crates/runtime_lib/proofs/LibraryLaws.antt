@@ -200,7 +200,7 @@ library_meets code entry base n stands label within =
 
 -- ---- after other code
 
-placed_there : (places : List (Option ℕ)) (label : ℕ) → list_all is_placed places ≡ true → label < length places → slice_get places label ≡ Some (Some (place_of places label))
+pub placed_there : (places : List (Option ℕ)) (label : ℕ) → list_all is_placed places ≡ true → label < length places → slice_get places label ≡ Some (Some (place_of places label))
 placed_there [] label all within = absurd (omega (arith, within))
 placed_there (None ∷ ps) label all within = absurd (false≢true all)
 placed_there (Some p ∷ ps) zero all within = refl
