@@ -1,0 +1,80 @@
+-- The operations that go elsewhere, and those that end a run.
+use Rattle.std.proofs.Common.{◌≡◌, ℕ, ◌+◌, ◌^◌, ◌<◌, ◌==◌, inl, Bool, true, false, ℤ, pos, refl, sym, ap, subst, ◌∙◌, arith}
+use Rattle.std.proofs.lemmas.Bool.Decides.{Decides-int_eq, Decides-eqb}
+use Rattle.std.proofs.lemmas.Int.{of_z-to_z}
+use Rattle.std.specs.Int.{w32}
+use Rattle.std.specs.Ordering.{int_eq}
+use Rattle.bas_ir.specs.declared.op.Op.TheVariants as o
+use Rattle.bas_ir.specs.Effects.{Effect, Goes, go_if}
+use Rattle.bas_ir.specs.Places.{Pending, nothing, pushed}
+use Rattle.bas_sem.specs.Actions.{raise}
+use Rattle.bas_sem.specs.Calls.{GoOn}
+use Rattle.bas_sem.specs.Course.{Value, Over}
+use Rattle.bas_sem.specs.State.{State}
+use Rattle.bv_num.specs.Bits.{signed, pattern}
+use Rattle.bv_run.specs.declared.report.Report.TheVariants.{Done}
+use Rattle.arm2_alu.proofs.ValueLaws.{compared}
+use Rattle.arm_core.specs.Core.{Core, IsGood, put, word}
+use Rattle.arm_core.specs.Effects.{flagged_by}
+use Rattle.arm_core.proofs.Comparisons.{after-eq}
+use Rattle.code_frag.specs.Demands as demands
+use Rattle.code_frag.specs.Demands.{Leaves, ToLabel, ToEnd, Owes}
+use Rattle.code_frag.proofs.Rules.{end_here, set_then, test_then, pull_then, leave_then, leave_if_then, halt_then}
+use Rattle.codegen.specs.Operations.{op_code, item_label}
+use Rattle.codegen.specs.Outcomes.{Arrives}
+use Rattle.codegen.specs.StandsFor.{StandsFor}
+use Rattle.codegen.proofs.Arriving.{CodeAsks, CodeDoes, without_top, free_room, raise_over, raise_by}
+
+-- a number is 0 where its register is
+pub zero-is : (r : ℕ) (value : ℤ) → r < 2 ^ 32 → signed r ≡ value → int_eq value (pos 0) ≡ (r == 0)
+zero-is r value small is = by (int_eq value (pos 0)) (r == 0) (Decides-int_eq value (pos 0)) (Decides-eqb r 0)
+  where
+    forth : value ≡ pos 0 → r ≡ 0
+    forth e = sym (of_z-to_z w32 r small) ∙ ap pattern (is ∙ e)
+
+    back : r ≡ 0 → value ≡ pos 0
+    back e = sym is ∙ ap signed e
+
+    by : (a b : Bool) → ((a ≡ true → value ≡ pos 0) × (value ≡ pos 0 → a ≡ true)) → ((b ≡ true → r ≡ 0) × (r ≡ 0 → b ≡ true)) → a ≡ b
+    by true true d e = refl
+    by false false d e = refl
+    by true false d e = sym (e.1 (forth (d.0 refl)))
+    by false true d e = d.1 (back (e.0 refl))
+
+module _ {image : ℕ → ℕ} {st : State} {s : Core} (texts : ℕ → ℕ) where
+  -- to an item, with nothing pending
+  pub go_owes : (item : ℕ) → StandsFor image nothing st s → Owes CodeAsks CodeDoes (op_code texts (o.Go item)) (Arrives image (Value (Goes (GoOn item)) st)) s
+  go_owes item f = leave_then (record { by = (refl, f) })
+
+  -- and where a number is 0
+  pub go_if_zero_owes : (item : ℕ) (value : ℤ) → StandsFor image (pushed value nothing) st s → IsGood s
+      → Owes CodeAsks CodeDoes (op_code texts (o.GoIfZero item)) (Arrives image (Value (go_if (int_eq value (pos 0)) item nothing) st)) s
+  go_if_zero_owes item value f good =
+      let r = s.regs 0 in
+      let g = without_top f in
+      let room = free_room g in
+      let is = after-eq r 0 s (good.regs 0) (omega arith) in
+      test_then (compared r 0) refl refl
+      (pull_then (s.regs 12) (word s.mem (s.regs 12)) (s.regs 12 + 4) refl refl (omega (arith, room)) (omega (arith, room)) (omega (arith, room))
+      (λ small.
+      leave_if_then (λ e. arrives (zero-is r value (good.regs 0) f.numbers.0 ∙ sym is ∙ e)) (λ e. end_here (falls (zero-is r value (good.regs 0) f.numbers.0 ∙ sym is ∙ e)))))
+    where
+      last : Core
+      last = put 0 (word s.mem (s.regs 12)) (put 12 (s.regs 12 + 4) (flagged_by (compared (s.regs 0) 0) s))
+
+      there : StandsFor image nothing st last
+      there = let g = without_top f in record { holds = g.holds; numbers = g.numbers; texts = g.texts }
+
+      arrives : int_eq value (pos 0) ≡ true → Arrives image (Value (go_if (int_eq value (pos 0)) item nothing) st) (Leaves (ToLabel (item_label item))) last
+      arrives e = subst (λ b. Arrives image (Value (go_if b item nothing) st) (Leaves (ToLabel (item_label item))) last) (sym e) (record { by = (refl, there) })
+
+      falls : int_eq value (pos 0) ≡ false → Arrives image (Value (go_if (int_eq value (pos 0)) item nothing) st) demands.Falls last
+      falls e = subst (λ b. Arrives image (Value (go_if b item nothing) st) demands.Falls last) (sym e) (record { by = (refl, there) })
+
+  -- an error of the language's own
+  pub raise_owes : (p : Pending) (error line : ℕ) → error < 256 → line < 65536 → StandsFor image p st s → Owes CodeAsks CodeDoes (op_code texts (o.Raise error line)) (Arrives image (raise {A = Effect} error line st)) s
+  raise_owes p error line known fits f = raise_by (raise {A = Effect} error line st) error line (raise_over {A = Effect} error line st f.holds.unhandled) known fits f.holds (λ t a. a)
+
+  -- the end
+  pub end_owes : (p : Pending) → StandsFor image p st s → Owes CodeAsks CodeDoes (op_code texts o.End) (Arrives image (Over Done st)) s
+  end_owes p f = set_then 0 refl refl (halt_then Done refl (record { by = inl (record { leaves = refl; out = f.holds.out_is; has_arena = f.holds.has_arena }) }))

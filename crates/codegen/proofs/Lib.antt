@@ -1,0 +1,25 @@
+-- The proofs of the code generator.
+mod PendingLaws
+mod StateLaws
+mod CellLaws
+mod Arriving
+mod CellOps
+mod OutputOps
+mod LeavingOps
+mod NumberFacts
+mod ArithmeticOps
+mod ShiftOps
+mod OpOwes
+mod OpFacts
+mod PlacedOps
+mod Simulate
+mod EffectFacts
+mod Running
+mod Start
+mod Image
+mod Texts
+mod Whole
+mod Bound
+mod DataLaws
+mod EmitLaws
+mod WholeProgram

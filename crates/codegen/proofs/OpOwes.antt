@@ -1,0 +1,147 @@
+-- The code of each operation owes what the operation does.
+use Rattle.std.proofs.Common.{◌≡◌, ℕ, suc, ◌+◌, ◌^◌, ◌<◌, ◌≤◌, ℤ, List, [], ◌∷◌, Some, length, slice_index_or, refl, sym, subst, arith}
+use Rattle.std.proofs.Math.Path.{transport}
+use Rattle.bas_ast.specs.declared.expressions.BinaryOp.{BinaryOp}
+use Rattle.bas_ast.specs.declared.expressions.BinaryOp.TheVariants as op
+use Rattle.bas_ast.specs.declared.expressions.UnaryOp.{UnaryOp}
+use Rattle.bas_ast.specs.declared.expressions.UnaryOp.TheVariants as unary
+use Rattle.bas_ir.specs.declared.ir.Height.{Height}
+use Rattle.bas_ir.specs.declared.ir.Ir.{Ir}
+use Rattle.bas_ir.specs.declared.op.Op.{Op}
+use Rattle.bas_ir.specs.declared.op.Op.TheVariants as o
+use Rattle.bas_ir.specs.Coded.{HasCode, HasWidths}
+use Rattle.bas_ir.specs.Effects.{effect}
+use Rattle.bas_ir.specs.Heights.{height_after}
+use Rattle.bas_ir.specs.Places.{Pending}
+use Rattle.bas_ir.specs.WellFormed.{IsThere}
+use Rattle.bas_sem.specs.Calls.{Level}
+use Rattle.bas_sem.specs.Operators.{of_one, of_two}
+use Rattle.bas_sem.specs.State.{State}
+use Rattle.bv_num.specs.Bits.{signed}
+use Rattle.arm2_alu.proofs.RegisterLaws.{updated}
+use Rattle.arm_core.specs.Core.{Core, IsGood, put, word}
+use Rattle.arm_core.proofs.States.{updated-lt}
+use Rattle.code_frag.specs.Demands.{Owes}
+use Rattle.code_frag.specs.Runs.{SameCode}
+use Rattle.code_frag.proofs.Rules.{pull_then}
+use Rattle.codegen.specs.Operations.{op_code, binary_code, unary_code}
+use Rattle.codegen.specs.Outcomes.{Arrives}
+use Rattle.codegen.specs.StandsFor.{IsText, StandsFor}
+use Rattle.codegen.proofs.Arriving.{CodeAsks, CodeDoes, Free, without_top, free_room}
+use Rattle.codegen.proofs.ArithmeticOps.{computed, or_owes, eor_owes, and_owes, add_owes, subtract_owes, compare_owes, product_owes, quotient_owes, remainder_owes, kept_owes, minus_owes, not_owes, abs_owes, sign_owes}
+use Rattle.codegen.proofs.CellOps.{push_owes, push_column_owes, push_resident_owes, store_resident_owes, push_integer_owes, store_integer_owes, push_text_owes}
+use Rattle.codegen.proofs.LeavingOps.{go_owes, go_if_zero_owes, raise_owes, end_owes}
+use Rattle.codegen.proofs.OutputOps.{write_number_owes, write_owes, write_mark_owes, write_text_owes}
+use Rattle.codegen.proofs.ShiftOps.{shift_left_owes, shift_right_signed_owes, shift_right_owes}
+
+-- what is pending after a jump
+abbrev pub JumpsEmpty : Op → List ℤ → List (List ℕ) → Type 0
+JumpsEmpty (o.Go item) numbers texts = (numbers ≡ []) × (texts ≡ [])
+JumpsEmpty (o.GoIfZero item) (value ∷ numbers) texts = (numbers ≡ []) × (texts ≡ [])
+JumpsEmpty _ numbers texts = Unit {0}
+
+-- an operation has what it takes
+pub record Fits (ir : Ir) (op : Op) (numbers : List ℤ) (texts : List (List ℕ)) (st : State) : Type 0 where
+  pub coded : HasCode op
+  pub widths : HasWidths op
+  pub there : IsThere ir op
+  pub after : Height
+  pub finds : height_after ir.routines op (record { numbers = length numbers; texts = length texts }) ≡ Some after
+  pub short : length numbers + length texts ≤ 256
+  pub names : length st.stored.integers ≡ length ir.names
+  pub jumps : JumpsEmpty op numbers texts
+
+module _ (image : ℕ → ℕ) (address : ℕ → ℕ) (ir : Ir) (level : Level) (literals : (number : ℕ) → number < length ir.texts → IsText image (address number) (slice_index_or ir.texts number [])) where
+  -- a word or sign
+  unary_owes : (x : UnaryOp) (line : ℕ) (q : Pending) (st : State) (s : Core) → line < 65536 → IsGood s → Free image q st s → Owes CodeAsks CodeDoes (unary_code x line) (Arrives image (computed (of_one x (signed (s.regs 0))) line q st)) s
+  unary_owes unary.Plus line q st s fits good f = kept_owes good f line fits unary.Plus refl
+  unary_owes unary.Minus line q st s fits good f = minus_owes good f line fits
+  unary_owes unary.Not line q st s fits good f = not_owes good f line fits
+  unary_owes unary.Abs line q st s fits good f = abs_owes good f line fits
+  unary_owes unary.Sgn line q st s fits good f = sign_owes good f line fits
+  unary_owes unary.Int line q st s fits good f = kept_owes good f line fits unary.Int refl
+
+  -- an operator
+  binary_owes : (x : BinaryOp) (line : ℕ) (q : Pending) (st : State) (s : Core) → line < 65536 → IsGood s → Free image q st s
+      → Owes CodeAsks CodeDoes (binary_code x line) (Arrives image (computed (of_two x (signed (s.regs 1)) (signed (s.regs 0))) line q st)) s
+  binary_owes op.Or line q st s fits good f = or_owes good f line fits
+  binary_owes op.Eor line q st s fits good f = eor_owes good f line fits
+  binary_owes op.And line q st s fits good f = and_owes good f line fits
+  binary_owes (op.Compare c) line q st s fits good f = compare_owes good f line fits c
+  binary_owes op.ShiftLeft line q st s fits good f = shift_left_owes good f line fits
+  binary_owes op.ShiftRightSigned line q st s fits good f = shift_right_signed_owes good f line fits
+  binary_owes op.ShiftRight line q st s fits good f = shift_right_owes good f line fits
+  binary_owes op.Add line q st s fits good f = add_owes good f line fits
+  binary_owes op.Subtract line q st s fits good f = subtract_owes good f line fits
+  binary_owes op.Multiply line q st s fits good f = product_owes good f line fits
+  binary_owes op.Divide line q st s fits good f = quotient_owes good f line fits
+  binary_owes op.Remainder line q st s fits good f = remainder_owes good f line fits
+
+  binary_from : (x : BinaryOp) (line : ℕ) (y z : ℤ) (numbers : List ℤ) (texts : List (List ℕ)) (st : State) (s : Core) → line < 65536 → suc (suc (length numbers)) + length texts ≤ 256 → StandsFor image (record { numbers = y ∷ z ∷ numbers; texts = texts }) st s → IsGood s
+      → Owes CodeAsks CodeDoes (op_code address (o.Binary x line)) (Arrives image (effect ir level (o.Binary x line) (record { numbers = y ∷ z ∷ numbers; texts = texts }) st)) s
+  binary_from x line y z numbers texts st s fits short f good =
+      let q : Pending = record { numbers = numbers; texts = texts } in
+      let room = free_room (without_top f) in
+      let p = s.regs 12 in
+      let b = word s.mem p in
+      pull_then p b (p + 4) refl refl (omega (arith, room)) (omega (arith, room)) (omega (arith, room))
+      (λ small.
+      let t = put 1 b (put 12 (p + 4) s) in
+      transport (λ i. Owes CodeAsks CodeDoes (binary_code x line) (Arrives image (computed (of_two x (f.numbers.1.0 i) (f.numbers.0 i)) line q st)) t)
+      (binary_owes x line q st t fits (record {
+        regs = λ k. updated-lt (updated s.regs 12 (p + 4)) 1 b (2 ^ 32) (λ j. updated-lt s.regs 12 (p + 4) (2 ^ 32) good.regs (omega (arith, room)) j) small k;
+        mem = good.mem;
+        input = good.input;
+      })
+      (record { holds = f.holds; numbers = f.numbers.1.1; texts = f.texts })))
+
+  -- jumps, where nothing is pending after them
+  go_from : (item : ℕ) (numbers : List ℤ) (texts : List (List ℕ)) (st : State) (s : Core) → (numbers ≡ []) × (texts ≡ []) → StandsFor image (record { numbers = numbers; texts = texts }) st s
+      → Owes CodeAsks CodeDoes (op_code address (o.Go item)) (Arrives image (effect ir level (o.Go item) (record { numbers = numbers; texts = texts }) st)) s
+  go_from item numbers texts st s none f = go_owes address item (transport (λ i. StandsFor image (record { numbers = none.0 i; texts = none.1 i }) st s) f)
+
+  go_if_zero_from : (item : ℕ) (value : ℤ) (numbers : List ℤ) (texts : List (List ℕ)) (st : State) (s : Core) → (numbers ≡ []) × (texts ≡ []) → StandsFor image (record { numbers = value ∷ numbers; texts = texts }) st s → IsGood s
+      → Owes CodeAsks CodeDoes (op_code address (o.GoIfZero item)) (Arrives image (effect ir level (o.GoIfZero item) (record { numbers = value ∷ numbers; texts = texts }) st)) s
+  go_if_zero_from item value numbers texts st s none f good =
+      transport (λ i. Owes CodeAsks CodeDoes (op_code address (o.GoIfZero item)) (Arrives image (effect ir level (o.GoIfZero item) (record { numbers = value ∷ sym none.0 i; texts = sym none.1 i }) st)) s)
+      (go_if_zero_owes address item value (transport (λ i. StandsFor image (record { numbers = value ∷ none.0 i; texts = none.1 i }) st s) f) good)
+
+  -- every operation
+  pub op_owes : (x : Op) (numbers : List ℤ) (texts : List (List ℕ)) (st : State) (s : Core) → Fits ir x numbers texts st → StandsFor image (record { numbers = numbers; texts = texts }) st s → IsGood s → SameCode image s.mem
+      → Owes CodeAsks CodeDoes (op_code address x) (Arrives image (effect ir level x (record { numbers = numbers; texts = texts }) st)) s
+  op_owes (o.Push value) numbers texts st s c f good same = push_owes address value c.widths f good c.short
+  op_owes o.PushColumn numbers texts st s c f good same = push_column_owes address f good c.short
+  op_owes (o.PushResident index) numbers texts st s c f good same = push_resident_owes address index c.coded f good c.short
+  op_owes (o.PushInteger name line) numbers texts st s c f good same = push_integer_owes address name line (let n = c.names in let t = c.there in omega (arith, n, t)) c.widths.1 f good c.short
+  op_owes (o.PushText number) numbers texts st s c f good same = push_text_owes address number (slice_index_or ir.texts number []) (literals number c.there) f good c.short
+  op_owes (o.Unary x line) [] texts st s c f good same = absurd (let e = c.finds in cc e)
+  op_owes (o.Unary x line) (value ∷ numbers) texts st s c f good same =
+      let q : Pending = record { numbers = numbers; texts = texts } in
+      subst (λ v. Owes CodeAsks CodeDoes (unary_code x line) (Arrives image (computed (of_one x v) line q st)) s) f.numbers.0 (unary_owes x line q st s c.widths good (without_top f))
+  op_owes (o.Binary x line) [] texts st s c f good same = absurd (let e = c.finds in cc e)
+  op_owes (o.Binary x line) (value ∷ []) texts st s c f good same = absurd (let e = c.finds in cc e)
+  op_owes (o.Binary x line) (y ∷ z ∷ numbers) texts st s c f good same = binary_from x line y z numbers texts st s c.widths c.short f good
+  op_owes (o.StoreResident index) [] texts st s c f good same = absurd (let e = c.finds in cc e)
+  op_owes (o.StoreResident index) (value ∷ numbers) texts st s c f good same = store_resident_owes address index value c.coded f good (let h = c.short in omega (arith, h))
+  op_owes (o.StoreInteger name) [] texts st s c f good same = absurd (let e = c.finds in cc e)
+  op_owes (o.StoreInteger name) (value ∷ numbers) texts st s c f good same = store_integer_owes address name value (let n = c.names in let t = c.there in omega (arith, n, t)) f good (let h = c.short in omega (arith, h))
+  op_owes (o.WriteNumber padded format) [] texts st s c f good same = absurd (let e = c.finds in cc e)
+  op_owes (o.WriteNumber padded format) (value ∷ numbers) texts st s c f good same = write_number_owes address padded format value f (let h = c.short in omega (arith, h))
+  op_owes o.WriteText numbers [] st s c f good same = absurd (let e = c.finds in cc e)
+  op_owes o.WriteText numbers (text ∷ texts) st s c f good same = write_text_owes address (record { numbers = numbers; texts = texts }) text f good same c.short
+  op_owes (o.Write x) [] texts st s c f good same = absurd (let e = c.finds in cc e)
+  op_owes (o.Write x) (value ∷ numbers) texts st s c f good same = write_owes address x value f good (let h = c.short in omega (arith, h))
+  op_owes (o.WriteMark x) numbers texts st s c f good same = write_mark_owes address x f good c.short
+  op_owes (o.Go item) numbers texts st s c f good same = go_from item numbers texts st s c.jumps f
+  op_owes (o.GoIfZero item) [] texts st s c f good same = absurd (let e = c.finds in cc e)
+  op_owes (o.GoIfZero item) (value ∷ numbers) texts st s c f good same = go_if_zero_from item value numbers texts st s c.jumps f good
+  op_owes (o.Raise error line) numbers texts st s c f good same = raise_owes address (record { numbers = numbers; texts = texts }) error line c.coded c.widths.1 f
+  op_owes o.End numbers texts st s c f good same = end_owes address (record { numbers = numbers; texts = texts }) f
+  op_owes (o.Enter kind routine line) numbers texts st s c f good same = absurd c.coded
+  op_owes (o.LeaveProcedure line) numbers texts st s c f good same = absurd c.coded
+  op_owes (o.NeedFunction line) numbers texts st s c f good same = absurd c.coded
+  op_owes o.LeaveNumber numbers texts st s c f good same = absurd c.coded
+  op_owes o.LeaveText numbers texts st s c f good same = absurd c.coded
+  op_owes (o.HandleAll item) numbers texts st s c f good same = absurd c.coded
+  op_owes (o.HandleHere item) numbers texts st s c f good same = absurd c.coded
+  op_owes o.HandleNone numbers texts st s c f good same = absurd c.coded

@@ -1,0 +1,291 @@
+-- The image of a flat code agrees with it: on every input, the board ends exactly where the flat machine does.
+use Rattle.std.proofs.Common.{◌≡◌, ℕ, zero, suc, ◌+◌, ◌*◌, ◌^◌, ◌<◌, ◌≤◌, ◌⊎◌, inl, inr, ℤ, List, [], ◌∷◌, ◌++◌, length, take, flat_map, Option, Some, None, slice_index, refl, sym, ap, subst, ◌∙◌, arith}
+use Rattle.std.specs.Prelude.{slice_get}
+use Rattle.std.proofs.lemmas.Bool.{cases_lt}
+use Rattle.std.proofs.lemmas.List.{get_or_past, length-append, length-replicate}
+use Rattle.bas_ir.specs.declared.ir.Ir.{Ir}
+use Rattle.bas_ir.specs.declared.op.Op.{Op}
+use Rattle.bas_ir.specs.Machine.{flat_run}
+use Rattle.bas_ir.specs.Places.{nothing, start_of, marks_in}
+use Rattle.bas_ir.specs.WellFormed.{IsLaidOut}
+use Rattle.bas_sem.specs.State.{start}
+use Rattle.bv_base.specs.Limits.{file_bytes, image_words}
+use Rattle.bv_base.specs.MemoryMap.{image_start}
+use Rattle.bv_run.specs.Outcome.{Outcome, RunsAgree}
+use Rattle.bv_run.specs.Outcome as outcomes
+use Rattle.bv_run.proofs.Agreement as agreement
+use Rattle.bv_run.proofs.Agreement.{grows_run, agree_from}
+use Rattle.bv_run.proofs.RunLaws.{Leads, leads-leads}
+use Rattle.arm2_machine.specs.Machine.{Machine, loaded, arena_of}
+use Rattle.arm2_machine.specs.Step.{board_step, board_run}
+use Rattle.arm_isa.proofs.ImmediateLaws.{gives_byte_2}
+use Rattle.arm_core.specs.Core.{Core, IsAt, first_core}
+use Rattle.arm_core.proofs.Start.{loaded-is}
+use Rattle.code_frag.specs.Demands as demands
+use Rattle.code_frag.specs.Demands.{Out, Post, Leaves, ToLabel, Owes}
+use Rattle.code_frag.specs.Language.{Leave, items, size}
+use Rattle.code_frag.specs.Places.{data_start}
+use Rattle.code_frag.specs.Regions.{error_texts_start, residents_start, numbers_end, texts_end, stack_end}
+use Rattle.code_frag.specs.Runs.{Stands, IsCode, SameCode, Comes, Moved}
+use Rattle.code_frag.specs.Words.{FragState, IsFrag, words_of}
+use Rattle.code_frag.proofs.Branches.{stands_front, stands_after}
+use Rattle.code_frag.proofs.JoinLaws.{stands_shifted}
+use Rattle.code_frag.proofs.Loaded.{image_stands}
+use Rattle.code_frag.proofs.RowLaws.{row_leads}
+use Rattle.code_frag.proofs.Rules.{end_here, set_then}
+use Rattle.code_frag.proofs.Sound.{sound}
+use Rattle.code_frag.proofs.WordLaws.{label_address, length-words_of}
+use Rattle.runtime_lib.specs.Entries.{bytes_from, error_table}
+use Rattle.runtime_lib.specs.Library.{library, LibraryStands}
+use Rattle.runtime_lib.proofs.LibraryLaws.{library_meets}
+use Rattle.codegen.specs.Agrees.{AreBytes, Agrees}
+use Rattle.codegen.specs.Fitting.{CanGenerate}
+use Rattle.codegen.specs.Operations.{main_label, item_label, op_code}
+use Rattle.codegen.specs.Program.{program, data_bytes, raiser, prologue, last_piece, op_items, library_place, raise_place, main_place, op_place, text_address, text_bytes}
+use Rattle.codegen.proofs.Arriving.{CodeAsks, CodeDoes, load_then}
+use Rattle.codegen.proofs.Bound.{program-bound}
+use Rattle.codegen.proofs.Image.{PartsStand, parts_stand, length-program, take_whole, main-address, raise-address, routine-address, item-address, end-address}
+use Rattle.codegen.proofs.PlacedOps.{used-suc, used-le, op_stands}
+use Rattle.codegen.proofs.Running as running
+use Rattle.codegen.proofs.Running.{made_some, follow_run}
+use Rattle.codegen.proofs.Simulate as simulate
+use Rattle.codegen.proofs.Simulate.{Placed}
+use Rattle.codegen.proofs.Start.{IsClear, loaded_clear, stands_start}
+use Rattle.codegen.proofs.Texts.{packed_in, front_in, text_in, length-packed}
+
+-- ---- where everything is
+
+-- what is written where the output is as it was
+nothing_more : (out more : List ℕ) → out ≡ out ++ more → more ≡ []
+nothing_more [] more e = sym e
+nothing_more (x ∷ out) more e = nothing_more out more (cc e)
+
+-- the place after all items is that after all operations
+end_place : (ir : Ir) (item : ℕ) → length ir.starts ≤ item → start_of ir item ≡ length ir.ops
+unfolding start_of
+end_place ir item high = get_or_past ir.starts item (length ir.ops) high
+
+-- the library has more than 256 bytes
+library-long : 64 ≤ length library.items
+unfolding library
+library-long = omega arith
+
+-- the bytes of some texts are no more than those of all
+taken-le : (texts : List (List ℕ)) (number : ℕ) → length (flat_map text_bytes (take number texts)) ≤ length (flat_map text_bytes texts)
+taken-le [] zero = omega arith
+taken-le [] (suc number) = omega arith
+taken-le (text ∷ texts) zero = omega arith
+taken-le (text ∷ texts) (suc number) =
+    let some = length-append (text_bytes text) (flat_map text_bytes (take number texts)) in
+    let all = length-append (text_bytes text) (flat_map text_bytes texts) in
+    let rest = taken-le texts number in
+    omega (arith, some, all, rest)
+
+module _ (ir : Ir) (can : CanGenerate ir) (code : ℕ → ℕ) (good : (b : ℕ) → code b < 2 ^ 8) (bytes : AreBytes (data_bytes ir)) (few : length (program ir).items ≤ image_words)
+    (h : Stands (program ir).items code (label_address (program ir).places image_start) image_start) where
+  abbrev entry : ℕ → ℕ
+  entry = label_address (program ir).places image_start
+
+  parts : PartsStand ir code entry image_start
+  parts = parts_stand ir code entry image_start h
+
+  laid : IsLaidOut ir
+  laid = can.well_formed.laid_out
+
+  -- all of it ends before the data
+  last_within : op_place ir (length ir.ops) + 2 ≤ image_words
+  last_within = let n = length-program ir in omega (arith, n, few)
+
+  next : (pc : ℕ) (x : Op) → slice_get ir.ops pc ≡ Some x → op_place ir (suc pc) ≡ op_place ir pc + size (op_code (text_address ir) x)
+  next pc x there = let u = used-suc (text_address ir) ir.ops pc x there in omega (arith, u)
+
+  within : (pc : ℕ) → op_place ir pc ≤ op_place ir (length ir.ops)
+  within pc =
+      let some = used-le (text_address ir) ir.ops pc in
+      let whole = ap (λ l. length (op_items (text_address ir) l)) (take_whole ir.ops) in
+      omega (arith, some, whole)
+
+  -- code lies where it may
+  lies_at : (place n : ℕ) → place + n ≤ image_words → IsCode (image_start + 4 * place) n
+  lies_at place n inside = record { low = omega arith; aligned = omega arith; high = omega (arith, inside) }
+
+  stands : (pc : ℕ) (x : Op) → slice_get ir.ops pc ≡ Some x → Stands (items (op_code (text_address ir) x)) code entry (image_start + 4 * op_place ir pc)
+  stands pc x there =
+      subst (Stands (items (op_code (text_address ir) x)) code entry) (omega arith)
+      (op_stands (text_address ir) ir.ops (items last_piece) code entry (image_start + 4 * (main_place ir + size prologue)) pc x there parts.ops)
+
+  last_stands : Stands (items last_piece) code entry (image_start + 4 * op_place ir (length ir.ops))
+  last_stands =
+      let whole = ap (λ l. length (op_items (text_address ir) l)) (take_whole ir.ops) in
+      subst (Stands (items last_piece) code entry) (omega (arith, whole))
+      (stands_after (op_items (text_address ir) ir.ops) (items last_piece) code entry (image_start + 4 * (main_place ir + size prologue)) parts.ops)
+
+  -- items begin at their labels
+  item_begins : (item : ℕ) → item ≤ length ir.starts → entry (item_label item) ≡ image_start + 4 * op_place ir (start_of ir item)
+  item_begins item there = by (cases_lt item (length ir.starts))
+    where
+      by : (item < length ir.starts) ⊎ (length ir.starts ≤ item) → entry (item_label item) ≡ image_start + 4 * op_place ir (start_of ir item)
+      by (inl low) =
+          let marked = laid.starts item low in
+          item-address ir image_start item laid.marks (start_of ir item) marked.0 marked.1 (let n = can.in_items.marked in omega (arith, low, n))
+      by (inr high) =
+          let n = can.in_items.marked in
+          ap (λ k. entry (item_label k)) (let e : item ≡ marks_in ir.marks = omega (arith, n, high, there) in e) ∙ end-address ir image_start laid.marks
+          ∙ ap (λ k. image_start + 4 * op_place ir k) (sym (end_place ir item high))
+
+  -- the library stands after the texts
+  library_stands : LibraryStands code entry (image_start + 4 * library_place ir) 1
+  library_stands =
+      let a = within 0 in
+      let b = last_within in
+      record {
+        lies = lies_at (library_place ir) (length library.items) (omega (arith, a, b));
+        stands = stands_shifted library.items 1 code entry (image_start + 4 * library_place ir) parts.routines;
+        entries = λ label low. routine-address ir image_start label low;
+      }
+
+  texts_in : bytes_from code error_texts_start (length (data_bytes ir)) ≡ data_bytes ir
+  texts_in = packed_in code entry good (data_bytes ir) error_texts_start bytes parts.texts
+
+  -- texts end before the data, with 256 bytes after each
+  text-high : (number : ℕ) → text_address ir number + 256 ≤ data_start
+  text-high number =
+      let some = taken-le ir.texts number in
+      let all = length-append error_table (flat_map text_bytes ir.texts) in
+      let words = length-packed (data_bytes ir) in
+      let a = within 0 in
+      let b = last_within in
+      omega (arith, some, all, words, a, b, library-long)
+
+  placed : Placed ir code entry image_start
+  placed = record {
+    stands = stands;
+    lies = λ pc x there. lies_at (op_place ir pc) (size (op_code (text_address ir) x)) (let n = next pc x there in let w = within (suc pc) in let l = last_within in omega (arith, n, w, l));
+    next = next;
+    last_stands = last_stands;
+    last_lies = lies_at (op_place ir (length ir.ops)) 2 last_within;
+    raise_stands = subst (Stands (items raiser) code entry) (sym (raise-address ir image_start)) parts.raising;
+    raise_lies = subst (λ a. IsCode a (size raiser)) (sym (raise-address ir image_start)) (lies_at (raise_place ir) 1 (let a = within 0 in let b = last_within in omega (arith, a, b)));
+    item = item_begins;
+    meets = λ label low. library_meets code entry (image_start + 4 * library_place ir) 1 library_stands label low;
+    literals = λ number low. record { low = omega arith; high = text-high number; is = text_in code error_table ir.texts number error_texts_start low texts_in };
+    error_texts = front_in code error_table (flat_map text_bytes ir.texts) error_texts_start texts_in;
+  }
+
+  -- ---- the beginning
+
+  -- the registers that code keeps, where the program begins
+  record Begun (s t : Core) : Type 0 where
+    base : t.regs 11 ≡ residents_start
+    numbers : t.regs 12 ≡ numbers_end
+    texts : t.regs 9 ≡ texts_end
+    stack : t.regs 13 ≡ stack_end
+    mem : t.mem ≡ s.mem
+    out : t.out ≡ s.out
+
+  abbrev Ready : Core → Post
+  Ready s o t = (o ≡ demands.Falls) × Begun s t
+
+  prologue_owes : (s : Core) → Owes CodeAsks CodeDoes prologue (Ready s) s
+  prologue_owes s =
+      let g = gives_byte_2 0x90 (omega arith) in
+      set_then residents_start refl g.value
+      (load_then 12 numbers_end (omega arith)
+      (load_then 9 texts_end (omega arith)
+      (load_then 13 stack_end (omega arith)
+      (end_here (refl, record { base = refl; numbers = refl; texts = refl; stack = refl; mem = refl; out = refl })))))
+
+  abbrev Jumped : Core → Post
+  Jumped s o t = (o ≡ Leaves (ToLabel main_label)) × (t ≡ s)
+
+  -- the board where the program begins, some steps after its start
+  record Ahead (s : Core) (m : Machine) : Type 0 where
+    core : Core
+    machine : Machine
+    leads : Leads board_step m machine []
+    is : IsAt core (image_start + 4 * op_place ir 0) machine
+    begun : Begun s core
+    same : SameCode code core.mem
+
+  ahead : (s : Core) (m : Machine) → SameCode code s.mem → IsAt s image_start m → Ahead s m
+  ahead s m same is =
+      let first = sound code entry CodeAsks CodeDoes (Leave main_label) refl tt (Jumped s) image_start s m (subst (λ a. IsCode a 1) (let e : image_start + 4 * 0 ≡ image_start = omega arith in e) (lies_at 0 1 (let a = within 0 in let b = last_within in omega (arith, a, b))))
+      (stands_front (items (Leave main_label)) (items (Leave main_label) ++ items (Leave main_label)) code entry image_start parts.begin) same is (refl, refl) in
+      let there : IsAt first.end (entry main_label) first.machine = subst (λ o. Comes entry o (image_start + 4 * 1) first.end first.machine) first.holds.0 first.comes in
+      let main = main-address ir image_start in
+      let at_main : IsAt first.end (image_start + 4 * main_place ir) first.machine = subst (λ a. IsAt first.end a first.machine) main there in
+      let second = sound code entry CodeAsks CodeDoes prologue refl tt (Ready first.end) (image_start + 4 * main_place ir) first.end first.machine (lies_at (main_place ir) (size prologue) (let a = within 0 in let b = last_within in omega (arith, a, b)))
+      parts.main first.same at_main (prologue_owes first.end).by in
+      let here : IsAt second.end (image_start + 4 * main_place ir + 4 * size prologue) second.machine = subst (λ o. Comes entry o (image_start + 4 * main_place ir + 4 * size prologue) second.end second.machine) second.holds.0 second.comes in
+      let b = second.holds.1 in
+      let as_it_was = first.holds.1 in
+      let some : 0 < length first.places = subst (λ o. Moved o first.places) first.holds.0 first.moved in
+      let more = made_some second.places first.machine second.machine second.bytes first.end second.end (image_start + 4 * main_place ir) (image_start + 4 * main_place ir + 4 * size prologue) second.row at_main here (omega arith) in
+      let none_first : first.bytes ≡ [] = nothing_more s.out first.bytes (sym (ap (λ c. c.out) as_it_was) ∙ first.writes) in
+      let none_second : second.bytes ≡ [] = nothing_more first.end.out second.bytes (sym b.out ∙ second.writes) in
+      record {
+        core = second.end;
+        machine = second.machine;
+        leads = leads-leads board_step m first.machine second.machine [] [] (subst (Leads board_step m first.machine) none_first (row_leads first.places m first.machine first.bytes first.row some))
+            (subst (Leads board_step first.machine second.machine) none_second (row_leads second.places first.machine second.machine second.bytes second.row more));
+        is = subst (λ a. IsAt second.end a second.machine) (omega arith) here;
+        begun = record { base = b.base; numbers = b.numbers; texts = b.texts; stack = b.stack; mem = b.mem ∙ ap (λ c. c.mem) as_it_was; out = b.out ∙ ap (λ c. c.out) as_it_was };
+        same = second.same;
+      }
+
+-- ---- agreement
+
+-- what follows from the board's machine follows from its run
+as_run : (n : ℕ) (o : Outcome) (m : Machine) → simulate.Follows (suc n) o m [] → agreement.Follows n o (simulate.board_from m [])
+as_run n (outcomes.Over out arena report) m f = f
+as_run n (outcomes.Going out arena) m f = (f.0, (let few = f.1 in omega (arith, few)), f.2)
+as_run n (outcomes.Broken out arena kind address) m f = f
+
+pub image_agrees : (ir : Ir) → CanGenerate ir → AreBytes (data_bytes ir) → IsFrag (program ir) → length (program ir).items ≤ image_words → (input : List ℕ) → ((k : ℕ) → slice_index input k < 2 ^ 8)
+    → RunsAgree (flat_run ir input) (board_run (words_of (program ir)) input)
+unfolding flat_run
+image_agrees ir can bytes frag few input small =
+    let words = words_of (program ir) in
+    let many = length-words_of (program ir) in
+    let s = first_core words input in
+    let m = loaded words input in
+    let is = loaded-is words input (omega (arith, many, few)) small in
+    let h = image_stands (program ir) input frag few small in
+    let clear = loaded_clear words input (omega (arith, many, few)) small in
+    let a = ahead ir can s.mem is.good.mem bytes few h s m (record { kept = λ b low high. refl }) is in
+    let p = placed ir can s.mem is.good.mem bytes few h in
+    let entry = label_address (program ir).places image_start in
+    let first = running.start_height ir s.mem entry image_start can p 0 (omega arith) in
+    let start_at = can.in_items.first in
+    let follows : (n : ℕ) → agreement.Follows n (flat_run ir input n) (board_run words input) = λ n.
+    as_run n (flat_run ir input n) m
+    (simulate.later n (flat_run ir input n) m a.machine [] [] a.leads
+    (follow_run ir s.mem entry image_start can p n (start_of ir 0) nothing (start ir.names input (2 * n)) a.core a.machine [] (record {
+      inside = first.0;
+      heights = first.1;
+      names = length-replicate {A = Option ℤ} (length ir.names) None;
+      same = a.same;
+      stands_for = stands_start s.mem ir.names input (2 * n) a.core (can.well_formed.few_names) (subst IsClear (sym a.begun.mem) clear) (a.begun.out) a.begun.base a.begun.stack a.begun.numbers a.begun.texts;
+      is = subst (λ k. IsAt a.core (image_start + 4 * op_place ir k) a.machine) (sym start_at) a.is;
+      written = a.begun.out;
+    }) (omega arith))) in
+    agree_from (flat_run ir input) (board_run words input) (grows_run (λ k. arena_of k.ram) board_step m []) follows
+
+-- an image is short enough
+pub short-enough : (ir : Ir) → CanGenerate ir → ir.size ≤ file_bytes → length (program ir).items ≤ image_words
+short-enough ir can small =
+    let bound = program-bound ir in
+    let short = can.well_formed.short in
+    omega (arith, bound, short, small)
+
+byte_at : (bytes : List ℕ) (k : ℕ) → AreBytes bytes → slice_index bytes k < 2 ^ 8
+byte_at [] k each = omega arith
+byte_at (b ∷ bytes) zero each = each.0
+byte_at (b ∷ bytes) (suc k) each = byte_at bytes k each.1
+
+-- the words of an image agree with the flat code
+pub words_agree : (ir : Ir) (f : FragState) (words : List ℕ) → CanGenerate ir → AreBytes (data_bytes ir) → IsFrag f → f ≡ program ir → words ≡ words_of f → ir.size ≤ file_bytes → Agrees (flat_run ir) words
+words_agree ir f words can bytes frag is_program is_words small input input_bytes =
+    let is : words ≡ words_of (program ir) = is_words ∙ ap words_of is_program in
+    subst (λ ws. RunsAgree (flat_run ir input) (board_run ws input)) (sym is)
+    (image_agrees ir can bytes (subst IsFrag is_program frag) (short-enough ir can small) input (λ k. byte_at input k input_bytes))

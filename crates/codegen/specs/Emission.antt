@@ -1,0 +1,21 @@
+-- Fragments as the generator adds to them. This project's own.
+use Rattle.std.specs.Prelude.{ℕ, ◌<◌, ◌++◌}
+use Rattle.bas_ir.specs.declared.op.Op.{Op}
+use Rattle.bas_ir.specs.declared.op.Op.TheVariants as o
+use Rattle.code_frag.specs.Language.{Piece, items}
+use Rattle.code_frag.specs.Words.{FragState}
+use Rattle.codegen.specs.Operations.{item_label, op_code}
+
+-- a fragment with a piece's items at its end
+abbrev pub with_code : Piece → FragState → FragState
+with_code piece f = record { items = f.items ++ items piece; places = f.places }
+
+-- the items at which an operation goes on have their labels among n
+abbrev pub LeadsInto : ℕ → Op → Type 0
+LeadsInto n (o.Go item) = item_label item < n
+LeadsInto n (o.GoIfZero item) = item_label item < n
+LeadsInto n _ = Unit {0}
+
+-- the code of an operation that pushes no string
+abbrev pub code_of : Op → Piece
+code_of op = op_code (λ number. 0) op

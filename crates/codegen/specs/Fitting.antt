@@ -1,0 +1,12 @@
+-- What the code generator asks of a flat code. This project's own.
+use Rattle.bas_ir.specs.declared.ir.Ir.{Ir}
+use Rattle.bas_ir.specs.Coded.{AllHaveCode, AllHaveWidths, IsInItems}
+use Rattle.bas_ir.specs.WellFormed.{IsWellFormed}
+
+-- A flat code that code can be made of: it is well formed, its operations are those of its items, and each has machine code and
+-- fields of its widths.
+pub record CanGenerate (ir : Ir) : Type 0 where
+  pub well_formed : IsWellFormed ir
+  pub in_items : IsInItems ir
+  pub have_code : AllHaveCode ir
+  pub widths : AllHaveWidths ir

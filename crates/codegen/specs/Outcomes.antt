@@ -1,0 +1,47 @@
+-- What the code of an operation owes, by what the flat machine does. This project's own.
+use Rattle.std.specs.Prelude.{◌≡◌, ◌⊎◌, ℕ, ◌<◌, ◌++◌, pos}
+use Rattle.bas_ir.specs.Effects.{Effect, Falls, Goes, Enters}
+use Rattle.bas_ir.specs.Places.{nothing}
+use Rattle.bas_sem.specs.Calls.{GoOn, Leave}
+use Rattle.bas_sem.specs.Course.{Course, Value, Raised, Over, Spent}
+use Rattle.bas_sem.specs.State.{State}
+use Rattle.bas_value.specs.Errors.{error_text}
+use Rattle.bas_value.specs.Output.{Closing, part_bytes}
+use Rattle.bv_run.specs.declared.report.Report.{Report}
+use Rattle.bv_run.specs.declared.report.Report.TheVariants.{Failed}
+use Rattle.arm_core.specs.Core.{Core}
+use Rattle.code_frag.specs.Demands as demands
+use Rattle.code_frag.specs.Demands.{Out, Post, Leaves, ToLabel, ToEnd}
+use Rattle.runtime_lib.specs.Entries.{CanWrite, column_in}
+use Rattle.codegen.specs.Operations.{raise_label, item_label}
+use Rattle.codegen.specs.StandsFor.{StandsFor, HasArena}
+
+-- the run ends with a report
+pub record Ends (report : Report) (st : State) (o : Out) (t : Core) : Type 0 where
+  pub leaves : o ≡ Leaves (ToEnd report)
+  pub out : t.out ≡ st.output
+  pub has_arena : HasArena t.mem st.arena
+
+-- An error is in R0 and its line in R1, and what is written of it ends the run.
+pub record Raises (report : Report) (st : State) (o : Out) (t : Core) : Type 0 where
+  pub leaves : o ≡ Leaves (ToLabel raise_label)
+  pub can_write : CanWrite t
+  pub error : t.regs 0 < 256
+  pub line : t.regs 1 < 65536
+  pub reports : report ≡ Failed (pos (t.regs 0)) (t.regs 1)
+  pub out : st.output ≡ t.out ++ part_bytes (Closing (error_text (t.regs 0)) (t.regs 1)) (column_in t)
+  pub has_arena : HasArena t.mem st.arena
+
+-- where the code of an operation comes to, by what the operation does
+abbrev pub Comes : (code : ℕ → ℕ) → Course Effect → Post
+Comes code (Value (Falls p) st) o t = (o ≡ demands.Falls) × StandsFor code p st t
+Comes code (Value (Goes (GoOn item)) st) o t = (o ≡ Leaves (ToLabel (item_label item))) × StandsFor code nothing st t
+Comes code (Value (Goes (Leave value)) st) o t = ⊥
+Comes code (Value (Enters line kind body values p) st) o t = ⊥
+Comes code (Raised handler st) o t = ⊥
+Comes code (Over report st) o t = Ends report st o t ⊎ Raises report st o t
+Comes code (Spent st) o t = ⊥
+
+-- the same under a name of its own
+pub record Arrives (code : ℕ → ℕ) (c : Course Effect) (o : Out) (t : Core) : Type 0 where
+  pub by : Comes code c o t

@@ -1,0 +1,158 @@
+//! The pieces of operators: those between two numbers, and those before one.
+ghost use Rattle.std.specs.Prelude.{◌≡◌, ◌<◌, length, OnOk};
+ghost use Rattle.bas_ast.specs.declared.expressions.BinaryOp.TheVariants.{Compare};
+ghost use Rattle.bas_ast.specs.declared.expressions.UnaryOp.TheVariants.{Abs};
+ghost use Rattle.codegen.specs.Emission.{with_code};
+ghost use Rattle.codegen.specs.Operations.{raise_label, condition_of, binary_code, unary_code};
+
+use crate::instructions::{cmp, data, emit_process, mov, over, pull, tst};
+use crate::labels::{MODULUS, PRODUCT, QUOTIENT};
+use crate::loads::{emit_operate, emit_raise_if_too_big};
+use arm_isa::Instr;
+use arm_isa::numbers::{
+    ADD, AL, AND, CMP, CS, EOR, EQ, GE, GT, LE, LT, MOV, MVN, NE, ORR, RSB, SUB, TST,
+};
+use bas_ast::{BinaryOp, Comparison, UnaryOp};
+use bv_base::NoMemory;
+use code_frag::{Frag, Item};
+
+/// The condition under which a comparison holds.
+fn condition_of(comparison: Comparison) -> u8
+    ensures value { result ≡ condition_of comparison }
+    ensures small { result < 16 }
+{
+    match comparison {
+        Comparison::Equal => EQ,
+        Comparison::NotEqual => NE,
+        Comparison::Less => LT,
+        Comparison::Greater => GT,
+        Comparison::LessOrEqual => LE,
+        Comparison::GreaterOrEqual => GE,
+    }
+}
+
+/// The items of `<<`: R1 is shifted by each bit of the amount in R0, and then by what is left of it.
+static SHIFT_LEFT: [Item; 14] = [
+    tst!(0, num 1),
+    data!(NE, MOV, false, 1, 0, lsl 1, 1),
+    tst!(0, num 2),
+    data!(NE, MOV, false, 1, 0, lsl 1, 2),
+    tst!(0, num 4),
+    data!(NE, MOV, false, 1, 0, lsl 1, 4),
+    tst!(0, num 8),
+    data!(NE, MOV, false, 1, 0, lsl 1, 8),
+    tst!(0, num 16),
+    data!(NE, MOV, false, 1, 0, lsl 1, 16),
+    mov!(2, lsl 0, 24),
+    cmp!(2, num 0x420),
+    data!(CS, MOV, false, 1, 0, num 0),
+    mov!(0, reg 1),
+];
+
+/// The items of `>>`.
+static SHIFT_RIGHT_SIGNED: [Item; 14] = [
+    tst!(0, num 1),
+    data!(NE, MOV, false, 1, 0, asr 1, 1),
+    tst!(0, num 2),
+    data!(NE, MOV, false, 1, 0, asr 1, 2),
+    tst!(0, num 4),
+    data!(NE, MOV, false, 1, 0, asr 1, 4),
+    tst!(0, num 8),
+    data!(NE, MOV, false, 1, 0, asr 1, 8),
+    tst!(0, num 16),
+    data!(NE, MOV, false, 1, 0, asr 1, 16),
+    mov!(2, lsl 0, 24),
+    cmp!(2, num 0x420),
+    data!(CS, MOV, false, 1, 0, asr 1, 31),
+    mov!(0, reg 1),
+];
+
+/// The items of `>>>`.
+static SHIFT_RIGHT: [Item; 14] = [
+    tst!(0, num 1),
+    data!(NE, MOV, false, 1, 0, lsr 1, 1),
+    tst!(0, num 2),
+    data!(NE, MOV, false, 1, 0, lsr 1, 2),
+    tst!(0, num 4),
+    data!(NE, MOV, false, 1, 0, lsr 1, 4),
+    tst!(0, num 8),
+    data!(NE, MOV, false, 1, 0, lsr 1, 8),
+    tst!(0, num 16),
+    data!(NE, MOV, false, 1, 0, lsr 1, 16),
+    mov!(2, lsl 0, 24),
+    cmp!(2, num 0x420),
+    data!(CS, MOV, false, 1, 0, num 0),
+    mov!(0, reg 1),
+];
+
+/// Adds the code of a comparison. The only error is want of memory.
+fn emit_compare(frag: &mut Frag, comparison: Comparison) -> Result<(), NoMemory>
+    ensures { OnOk result (frag.new ≡ with_code (binary_code (Compare comparison) 0) frag.old) }
+{
+    frag.emit_all(&[cmp!(1, reg 0), mov!(0, num 0)])?;
+    emit_process(frag, condition_of(comparison), MVN, 0, 0, 0)
+}
+
+/// Adds the code of an operator between R1 and R0, into R0. The only error is want of memory.
+pub fn emit_binary(frag: &mut Frag, op: BinaryOp, line: u16) -> Result<(), NoMemory>
+    requires { raise_label < length frag.old.places }
+    ensures { OnOk result (frag.new ≡ with_code (binary_code op line) frag.old) }
+{
+    match op {
+        BinaryOp::Or => frag.emit_all(&[data!(AL, ORR, false, 0, 1, reg 0)]),
+        BinaryOp::Eor => frag.emit_all(&[data!(AL, EOR, false, 0, 1, reg 0)]),
+        BinaryOp::And => frag.emit_all(&[data!(AL, AND, false, 0, 1, reg 0)]),
+        BinaryOp::Compare(comparison) => emit_compare(frag, comparison),
+        BinaryOp::ShiftLeft => frag.emit_all(&SHIFT_LEFT),
+        BinaryOp::ShiftRightSigned => frag.emit_all(&SHIFT_RIGHT_SIGNED),
+        BinaryOp::ShiftRight => frag.emit_all(&SHIFT_RIGHT),
+        BinaryOp::Add => {
+            frag.emit_all(&[data!(AL, ADD, true, 0, 1, reg 0)])?;
+            emit_raise_if_too_big(frag, line)
+        }
+        BinaryOp::Subtract => {
+            frag.emit_all(&[data!(AL, SUB, true, 0, 1, reg 0)])?;
+            emit_raise_if_too_big(frag, line)
+        }
+        BinaryOp::Multiply => emit_operate(frag, PRODUCT, line),
+        BinaryOp::Divide => emit_operate(frag, QUOTIENT, line),
+        BinaryOp::Remainder => emit_operate(frag, MODULUS, line),
+    }
+}
+
+/// Adds the code of ABS. The only error is want of memory.
+fn emit_abs(frag: &mut Frag, line: u16) -> Result<(), NoMemory>
+    requires { raise_label < length frag.old.places }
+    ensures { OnOk result (frag.new ≡ with_code (unary_code Abs line) frag.old) }
+{
+    frag.emit_all(&[
+        cmp!(0, num 0),
+        over!(GE, 6),
+        data!(AL, RSB, true, 0, 0, num 0),
+    ])?;
+    emit_raise_if_too_big(frag, line)
+}
+
+/// The items of SGN.
+static SIGN: [Item; 3] = [
+    cmp!(0, num 0),
+    data!(GT, MOV, false, 0, 0, num 1),
+    data!(LT, MVN, false, 0, 0, num 0),
+];
+
+/// Adds the code of a word or sign before R0. The only error is want of memory.
+pub fn emit_unary(frag: &mut Frag, op: UnaryOp, line: u16) -> Result<(), NoMemory>
+    requires { raise_label < length frag.old.places }
+    ensures { OnOk result (frag.new ≡ with_code (unary_code op line) frag.old) }
+{
+    match op {
+        UnaryOp::Plus | UnaryOp::Int => frag.emit_all(&[mov!(0, reg 0)]),
+        UnaryOp::Minus => {
+            frag.emit_all(&[data!(AL, RSB, true, 0, 0, num 0)])?;
+            emit_raise_if_too_big(frag, line)
+        }
+        UnaryOp::Not => frag.emit_all(&[data!(AL, MVN, false, 0, 0, reg 0)]),
+        UnaryOp::Abs => emit_abs(frag, line),
+        UnaryOp::Sgn => frag.emit_all(&SIGN),
+    }
+}

@@ -1,0 +1,121 @@
+//! The code of a whole program: an image's first words, the texts, the library, and the operations.
+ghost use Rattle.std.specs.Prelude.{◌≡◌, ◌+◌, ◌<◌, ◌^◌, ◌++◌, IfOk, OnOk, length};
+ghost use Rattle.bas_ir.specs.Places.{marks_in};
+ghost use Rattle.bas_ir.specs.WellFormed.{IsLaidOut};
+ghost use Rattle.code_frag.specs.Words.{IsOpen};
+ghost use Rattle.codegen.specs.Agrees.{AreBytes};
+ghost use Rattle.codegen.specs.Emission.{with_code};
+ghost use Rattle.codegen.specs.Operations.{main_label, raise_label, item_label};
+ghost use Rattle.codegen.specs.Placing.{front, with_library, with_beginning, with_program, AreOpen, addresses};
+ghost use Rattle.codegen.specs.Program.{header, prologue, program, data_bytes};
+
+use crate::addresses::text_addresses;
+use crate::data::{data_bytes, emit_bytes};
+use crate::instructions::emit_process;
+use crate::labels::{CLOSING_TEXT, MAIN, RAISE, item_label};
+use crate::loads::emit_load;
+use crate::operations::emit_end;
+use crate::placing::{add_labels, emit_ops};
+use arm_isa::numbers::{AL, MOV};
+use bas_ir::Ir;
+use bv_base::NoMemory;
+use code_frag::Frag;
+use runtime_lib::routines;
+use std::alloc::Global;
+
+/// The immediate of the residents' address.
+const RESIDENTS: u16 = 0x890;
+
+/// The ends of the pending numbers, of the pending strings' addresses, and of the frames of routines.
+const NUMBERS_END: u32 = 0x9a_0400;
+
+const TEXTS_END: u32 = 0x9a_9040;
+
+const STACK_END: u32 = 0xff_f000;
+
+/// Adds an image's first words, which lead to where the program begins. The only error is want of memory.
+fn emit_header(frag: &mut Frag) -> Result<(), NoMemory>
+    requires { main_label < length frag.old.places }
+    ensures { OnOk result (frag.new ≡ record { items = frag.old.items ++ header; places = frag.old.places }) }
+{
+    frag.branch(AL, false, MAIN)?;
+    frag.branch(AL, false, MAIN)?;
+    frag.branch(AL, false, MAIN)
+}
+
+/// An image's first words and the texts. The only error is want of memory.
+fn begin(alloc: Global, ir: &Ir) -> Result<Frag, NoMemory>
+    ensures built { IfOk result (λ frag. frag ≡ front ir.now) }
+    ensures labels { IfOk result (λ frag. length frag.places ≡ 1) }
+    ensures bytes { IfOk result (λ frag. AreBytes (data_bytes ir.now)) }
+{
+    let mut frag = Frag::new(alloc);
+    frag.label()?;
+    emit_header(&mut frag)?;
+    let bytes = data_bytes(alloc, ir)?;
+    emit_bytes(&mut frag, bytes.as_slice())?;
+    Ok(frag)
+}
+
+/// The library after them, with all labels. The only error is want of memory.
+fn with_library(alloc: Global, ir: &Ir) -> Result<Frag, NoMemory>
+    ensures built { IfOk result (λ frag. frag ≡ with_library ir.now) }
+    ensures few { IfOk result (λ frag. length frag.places < 2 ^ 32) }
+    ensures bytes { IfOk result (λ frag. AreBytes (data_bytes ir.now)) }
+{
+    let mut frag = begin(alloc, ir)?;
+    let library = routines(alloc)?;
+    frag.join(&library.frag)?;
+    add_labels(&mut frag, ir.marks.as_slice())?;
+    Ok(frag)
+}
+
+/// Adds the setting of the registers that code keeps everywhere. The only error is want of memory.
+fn emit_prologue(frag: &mut Frag) -> Result<(), NoMemory>
+    ensures { OnOk result (frag.new ≡ with_code prologue frag.old) }
+{
+    emit_process(frag, AL, MOV, 11, 0, RESIDENTS)?;
+    emit_load(frag, 12, NUMBERS_END)?;
+    emit_load(frag, 9, TEXTS_END)?;
+    emit_load(frag, 13, STACK_END)
+}
+
+/// Adds the raising of errors, and the beginning of the program. The only error is want of memory.
+fn emit_beginning(frag: &mut Frag) -> Result<(), NoMemory>
+    requires raise { IsOpen frag.old raise_label }
+    requires main { IsOpen frag.old main_label }
+    requires labels { raise_label < length frag.old.places }
+    ensures { OnOk result (frag.new ≡ with_beginning frag.old) }
+{
+    frag.place(RAISE);
+    frag.branch(AL, true, CLOSING_TEXT)?;
+    frag.place(MAIN);
+    emit_prologue(frag)
+}
+
+/// Adds the operations and the end after them, by the table of the texts' addresses. The only error is want of memory.
+fn emit_program(frag: &mut Frag, ir: &Ir, table: &[u32]) -> Result<(), NoMemory>
+    requires laid_out { IsLaidOut ir.now }
+    requires open { AreOpen 0 frag.old }
+    requires labels { length frag.old.places ≡ item_label (marks_in ir.now.marks) + 1 }
+    requires few { length frag.old.places < 2 ^ 32 }
+    requires addresses { table.now ≡ addresses ir.now }
+    ensures { OnOk result (frag.new ≡ with_program ir.now frag.old) }
+{
+    let items = emit_ops(frag, ir, table)?;
+    frag.place(item_label(items));
+    emit_end(frag)
+}
+
+/// The code of a program. The only error is want of memory.
+pub fn program_frag(alloc: Global, ir: &Ir) -> Result<Frag, NoMemory>
+    requires { IsLaidOut ir.now }
+    ensures built { IfOk result (λ frag. frag ≡ program ir.now) }
+    ensures bytes { IfOk result (λ frag. AreBytes (data_bytes ir.now)) }
+{
+    let mut frag = with_library(alloc, ir)?;
+    emit_beginning(&mut frag)?;
+    let table = text_addresses(alloc, ir)?;
+    emit_program(&mut frag, ir, table.as_slice())?;
+    Ok(frag)
+}
