@@ -4,6 +4,7 @@ ghost use Rattle.bas_ir.specs.Coded.{AllHaveCode, IsInItems};
 ghost use Rattle.bas_ir.specs.Machine.{flat_run};
 ghost use Rattle.bas_ir.specs.WellFormed.{IsWellFormed};
 ghost use Rattle.bv_base.specs.Limits.{file_bytes, image_words};
+ghost use Rattle.bv_base.specs.Words.{AreWords};
 ghost use Rattle.codegen.specs.Agrees.{Agrees};
 ghost use Rattle.codegen.specs.Program.{most_beside};
 
@@ -20,6 +21,7 @@ pub fn generate_code(alloc: Global, ir: &Ir) -> Result<Vec<u32>, NoMemory>
     requires have_code { AllHaveCode ir.now }
     requires size { ir.now.size ≤ file_bytes }
     ensures agrees { IfOk result (λ words. Agrees (flat_run ir.now) words.items) }
+    ensures are_words { IfOk result (λ words. AreWords words.items) }
     ensures short { IfOk result (λ words. 4 * length words.items ≤ 96 * ir.now.size + most_beside) }
     ensures few { IfOk result (λ words. length words.items ≤ image_words) }
 {

@@ -105,16 +105,16 @@ accepted_or_refused bytes = elim (cases_lt file_bytes (length bytes)) [
 
 -- ---- what an answer says
 
-pub accepts_accepted : (bytes : List ℕ) (result : Result Prog Refusal) (prog : Prog) → IfErr result (FileExplained bytes) → Accepted bytes prog → IsOkUnless result refusals.NoMemory
+pub accepts_accepted : {T : Type 0} (bytes : List ℕ) (result : Result T Refusal) (prog : Prog) → IfErr result (FileExplained bytes) → Accepted bytes prog → IsOkUnless result refusals.NoMemory
 accepts_accepted bytes (Ok p) prog why a = tt
 accepts_accepted bytes (Err (refusals.Malformed at)) prog why a = absurd (never_both bytes prog (refusals.Malformed at) a why)
 accepts_accepted bytes (Err (refusals.Outside line)) prog why a = absurd (never_both bytes prog (refusals.Outside line) a why)
 accepts_accepted bytes (Err (refusals.Limit which count)) prog why a = absurd (never_both bytes prog (refusals.Limit which count) a why)
 accepts_accepted bytes (Err refusals.NoMemory) prog why a = refl
 
-pub refuses_refused : (bytes : List ℕ) (result : Result Prog Refusal) (reason : Refusal) → IfOk result (Accepted bytes) → IfErr result (FileExplained bytes) → Refused bytes reason
+pub refuses_refused : {T : Type 0} (bytes : List ℕ) (result : Result T Refusal) (reason : Refusal) → IfOk result (λ _. (prog : Prog) × Accepted bytes prog) → IfErr result (FileExplained bytes) → Refused bytes reason
     → IsErrAnd result (λ error. (error ≡ reason) ⊎ (error ≡ refusals.NoMemory))
-refuses_refused bytes (Ok p) reason is why r = absurd (never_both bytes p reason is r)
+refuses_refused bytes (Ok p) reason is why r = absurd (never_both bytes is.0 reason is.1 r)
 refuses_refused bytes (Err (refusals.Malformed at)) reason is why r = inl (refused_once bytes (refusals.Malformed at) reason why r)
 refuses_refused bytes (Err (refusals.Outside line)) reason is why r = inl (refused_once bytes (refusals.Outside line) reason why r)
 refuses_refused bytes (Err (refusals.Limit which count)) reason is why r = inl (refused_once bytes (refusals.Limit which count) reason why r)

@@ -1,7 +1,8 @@
 use Rattle.std.proofs.Common.{length, sym, subst, ap, ◌∙◌, arith}
 use Rattle.std.proofs.lemmas.Result.{IfOk-weaker}
-use Rattle.code_frag.specs.Words.{AllPlaced, FragState, words_of}
-use Rattle.code_frag.proofs.WordLaws.{length-words_of}
+use Rattle.bv_base.specs.Words.{AreWords}
+use Rattle.code_frag.specs.Words.{AllPlaced, FragState, IsFrag, words_of}
+use Rattle.code_frag.proofs.WordLaws.{length-words_of, are-words}
 use Rattle.codegen.specs.Fitting.{CanGenerate}
 use Rattle.codegen.proofs.Bound.{program-bound}
 use Rattle.codegen.proofs.Whole.{words_agree}
@@ -24,6 +25,15 @@ returns-clause-agrees c =
     let can : CanGenerate c.args.ir.now = record { well_formed = c.requires.well_formed; in_items = c.requires.in_items; have_code = c.requires.have_code; widths = c.all_have_widths.ensures } in
     let is_program = c.frag.view_is ∙ c.in_ok-frag.ensures.built in
     IfOk-weaker c.resolve.result _ _ (λ words is. words_agree c.args.ir.now _ words.items can c.in_ok-frag.ensures.bytes c.frag.invariant is_program (is ∙ ap words_of (sym c.frag.view_is)) c.requires.size) c.resolve.ensures.words
+
+pub returns-clause-are_words : goal.returns-clause-are_words
+returns-clause-are_words c =
+    let many = ap (λ (f : FragState). length f.items) c.in_ok-frag.ensures.built in
+    let bound = program-bound c.args.ir.now in
+    let short = c.requires.well_formed.short in
+    let size = c.requires.size in
+    let frag = subst IsFrag c.frag.view_is c.frag.invariant in
+    IfOk-weaker c.resolve.result _ _ (λ words is. subst AreWords (sym is) (are-words c.in_ok-frag.frag frag (omega (arith, many, bound, short, size)))) c.resolve.ensures.words
 
 pub returns-clause-short : goal.returns-clause-short
 returns-clause-short c =
