@@ -7,7 +7,7 @@ use Rattle.arm_isa.specs.declared.instruction.Instr.{Instr}
 use Rattle.arm_isa.specs.Words.{means}
 use Rattle.code_frag.specs.declared.item.Item.{Item}
 use Rattle.code_frag.specs.declared.item.Item.TheVariants.{Ins}
-use Rattle.codegen.specs.Data.{word_from}
+use Rattle.codegen.specs.Emission.{word_from}
 use Rattle.codegen.specs.Program.{packed, data_items}
 
 -- ---- pieces of bytes, one after another

@@ -1,5 +1,5 @@
 -- Fragments as the generator adds to them. This project's own.
-use Rattle.std.specs.Prelude.{ℕ, ◌<◌, ◌++◌}
+use Rattle.std.specs.Prelude.{ℕ, ◌+◌, ◌*◌, ◌^◌, ◌<◌, List, ◌++◌, slice_index}
 use Rattle.bas_ir.specs.declared.op.Op.{Op}
 use Rattle.bas_ir.specs.declared.op.Op.TheVariants as o
 use Rattle.code_frag.specs.Language.{Piece, items}
@@ -19,3 +19,7 @@ LeadsInto n _ = Unit {0}
 -- the code of an operation that pushes no string
 abbrev pub code_of : Op → Piece
 code_of op = op_code (λ number. 0) op
+
+-- the word of four bytes from a place on, the lowest one first, where bytes past the end are 0
+abbrev pub word_from : List ℕ → ℕ → ℕ
+word_from bytes at = slice_index bytes at + slice_index bytes (at + 1) * 2 ^ 8 + slice_index bytes (at + 2) * 2 ^ 16 + slice_index bytes (at + 3) * 2 ^ 24

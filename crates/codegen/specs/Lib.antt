@@ -5,5 +5,4 @@ pub mod Program
 pub mod Fitting
 pub mod Agrees
 pub mod Emission
-pub mod Data
 pub mod Placing

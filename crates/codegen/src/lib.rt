@@ -1,9 +1,8 @@
 //! Machine code for the flat code: a piece of code for each operation, and the image of a program.
 #![tactic(auto)]
 
-mod addresses;
-mod data;
 mod generate;
+mod image_texts;
 mod instructions;
 mod labels;
 mod loads;
@@ -11,5 +10,6 @@ mod operations;
 mod operators;
 mod placing;
 mod program;
+mod registers;
 
 pub use generate::generate_code;

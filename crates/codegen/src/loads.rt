@@ -7,29 +7,30 @@ ghost use Rattle.codegen.specs.Operations as pieces;
 
 use crate::instructions::{cmp, data, emit_process, mov, over};
 use crate::labels::RAISE;
+use crate::registers::{BASE, CELL_BYTES, CELLS};
 use arm_isa::Instr;
 use arm_isa::numbers::{ADD, AL, CMP, EQ, MOV, MVN, VC};
 use bv_base::NoMemory;
 use bv_num::TOO_BIG;
 use code_frag::{Frag, Item, Label};
 
-/// The immediates of a byte moved left by 8, 16 or 24 bits, without the byte.
+/// The immediate of a byte moved left by 8 bits, without the byte.
 const SECOND_BYTE: u16 = 0xc00;
 
-const THIRD_BYTE: u16 = 0x800;
+/// That of a byte moved left by 16 bits.
+pub const THIRD_BYTE: u16 = 0x800;
 
+/// That of a byte moved left by 24 bits.
 const FOURTH_BYTE: u16 = 0x400;
 
 /// The immediate of a multiple of 4,096, without the byte.
 const PAGE: u16 = 0xa00;
 
+/// The numbers from this on are the complements of bytes.
+const COMPLEMENTS: u32 = 0xffff_ff00;
+
 /// The bytes of a load's greatest offset and one more.
 const PAGE_BYTES: u32 = 0x1000;
-
-/// Where the first cell stands after the residents' address, in bytes, and the bytes of a cell.
-const CELLS: u32 = 0x100;
-
-const CELL_BYTES: u32 = 8;
 
 /// Adds the code by which a register takes a number below 2^16. The only error is want of memory.
 pub fn emit_load_short(frag: &mut Frag, rd: u8, number: u16) -> Result<(), NoMemory>
@@ -78,7 +79,7 @@ pub fn emit_number(frag: &mut Frag, number: u32) -> Result<(), NoMemory>
 {
     if number < 0x100 {
         emit_process(frag, AL, MOV, 0, 0, number as u16)
-    } else if number >= 0xffff_ff00 {
+    } else if number >= COMPLEMENTS {
         emit_process(frag, AL, MVN, 0, 0, (u32::MAX - number) as u16)
     } else {
         emit_load(frag, 0, number)
@@ -147,7 +148,7 @@ pub fn emit_find_cell(frag: &mut Frag, name: u16) -> Result<(), NoMemory>
         AL,
         ADD,
         1,
-        11,
+        BASE,
         PAGE + (cell_offset(name) / PAGE_BYTES) as u16,
     )
 }

@@ -14,6 +14,7 @@ use crate::labels::{
 };
 use crate::loads::{cell_place, emit_find_cell, emit_load, emit_number, emit_raise};
 use crate::operators::{emit_binary, emit_unary};
+use crate::registers::{BASE, COLUMN, NUMBERS, TEXT, TEXTS};
 use arm_isa::Instr;
 use arm_isa::numbers::{AL, CMP, EQ, MOV, NE};
 use arm2_machine::{SWI_END, SWI_NEW_LINE, SWI_WRITE};
@@ -23,19 +24,13 @@ use bas_store::UNKNOWN_VARIABLE;
 use bv_base::NoMemory;
 use code_frag::{Frag, Item, Label};
 
-/// The register that has the residents' address.
-const BASE: u8 = 11;
-
-/// Where the column stands, from the residents on, in bytes.
-const COLUMN: u16 = 108;
-
 // ---- numbers and strings that are pushed
 
 /// Adds the pushing of a number. The only error is want of memory.
 fn emit_push(frag: &mut Frag, value: i32) -> Result<(), NoMemory>
     ensures { OnOk result (frag.new ≡ with_code (code_of (o.Push value)) frag.old) }
 {
-    frag.emit_all(&[push!(0, 12)])?;
+    frag.emit_all(&[push!(0, NUMBERS)])?;
     emit_number(frag, value.cast_unsigned())
 }
 
@@ -43,7 +38,7 @@ fn emit_push(frag: &mut Frag, value: i32) -> Result<(), NoMemory>
 fn emit_push_resident(frag: &mut Frag, index: u8) -> Result<(), NoMemory>
     ensures { OnOk result (frag.new ≡ with_code (code_of (o.PushResident index)) frag.old) }
 {
-    frag.emit_all(&[push!(0, 12)])?;
+    frag.emit_all(&[push!(0, NUMBERS)])?;
     emit_transfer(frag, true, 0, BASE, 4 * index as u16)
 }
 
@@ -52,7 +47,7 @@ fn emit_push_integer(frag: &mut Frag, name: u16, line: u16) -> Result<(), NoMemo
     requires { raise_label < length frag.old.places }
     ensures { OnOk result (frag.new ≡ with_code (code_of (o.PushInteger name line)) frag.old) }
 {
-    frag.emit_all(&[push!(0, 12)])?;
+    frag.emit_all(&[push!(0, NUMBERS)])?;
     emit_find_cell(frag, name)?;
     emit_transfer(frag, true, 2, 1, cell_place(name) + 4)?;
     frag.emit_all(&[cmp!(2, num 0), over!(NE, 4)])?;
@@ -64,8 +59,8 @@ fn emit_push_integer(frag: &mut Frag, name: u16, line: u16) -> Result<(), NoMemo
 fn emit_push_text(frag: &mut Frag, number: u32, address: u32) -> Result<(), NoMemory>
     ensures { OnOk result (frag.new ≡ with_code (op_code (λ n. address) (o.PushText number)) frag.old) }
 {
-    frag.emit_all(&[push!(10, 9)])?;
-    emit_load(frag, 10, address)
+    frag.emit_all(&[push!(TEXT, TEXTS)])?;
+    emit_load(frag, TEXT, address)
 }
 
 /// Adds an operator between the two topmost numbers. The only error is want of memory.
@@ -73,7 +68,7 @@ fn emit_operator(frag: &mut Frag, op: BinaryOp, line: u16) -> Result<(), NoMemor
     requires { raise_label < length frag.old.places }
     ensures { OnOk result (frag.new ≡ with_code (code_of (o.Binary op line)) frag.old) }
 {
-    frag.emit_all(&[pull!(1, 12)])?;
+    frag.emit_all(&[pull!(1, NUMBERS)])?;
     emit_binary(frag, op, line)
 }
 
@@ -84,7 +79,7 @@ fn emit_store_resident(frag: &mut Frag, index: u8) -> Result<(), NoMemory>
     ensures { OnOk result (frag.new ≡ with_code (code_of (o.StoreResident index)) frag.old) }
 {
     emit_transfer(frag, false, 0, BASE, 4 * index as u16)?;
-    frag.emit_all(&[pull!(0, 12)])
+    frag.emit_all(&[pull!(0, NUMBERS)])
 }
 
 /// Adds the storing of a number in a name's integer. The only error is want of memory.
@@ -95,7 +90,7 @@ fn emit_store_integer(frag: &mut Frag, name: u16) -> Result<(), NoMemory>
     emit_transfer(frag, false, 0, 1, cell_place(name))?;
     frag.emit_all(&[mov!(2, num 1)])?;
     emit_transfer(frag, false, 2, 1, cell_place(name) + 4)?;
-    frag.emit_all(&[pull!(0, 12)])
+    frag.emit_all(&[pull!(0, NUMBERS)])
 }
 
 // ---- output
@@ -117,7 +112,7 @@ fn emit_write_number(frag: &mut Frag, padded: bool, format: NumberFormat) -> Res
 {
     emit_process(frag, AL, MOV, 1, 0, padded as u16)?;
     frag.branch(AL, true, number_routine(format))?;
-    frag.emit_all(&[pull!(0, 12)])
+    frag.emit_all(&[pull!(0, NUMBERS)])
 }
 
 /// Adds the writing of the topmost string. The only error is want of memory.
@@ -125,9 +120,9 @@ fn emit_write_text(frag: &mut Frag) -> Result<(), NoMemory>
     requires { raise_label < length frag.old.places }
     ensures { OnOk result (frag.new ≡ with_code (code_of o.WriteText) frag.old) }
 {
-    frag.emit_all(&[push!(0, 12), mov!(0, reg 10)])?;
+    frag.emit_all(&[push!(0, NUMBERS), mov!(0, reg TEXT as u16)])?;
     frag.branch(AL, true, STRING_OUT)?;
-    frag.emit_all(&[pull!(0, 12), pull!(10, 9)])
+    frag.emit_all(&[pull!(0, NUMBERS), pull!(TEXT, TEXTS)])
 }
 
 /// Adds a routine's call that takes the topmost number. The only error is want of memory.
@@ -136,17 +131,17 @@ fn emit_write_by(frag: &mut Frag, routine: Label) -> Result<(), NoMemory>
     ensures { OnOk result (frag.new ≡ with_code (Call routine.number ⨾ drop ⨾ Skip) frag.old) }
 {
     frag.branch(AL, true, routine)?;
-    frag.emit_all(&[pull!(0, 12)])
+    frag.emit_all(&[pull!(0, NUMBERS)])
 }
 
 /// The items of VDU, of VDU with `;`, of MODE and of COLOUR.
-static BYTE: [Item; 2] = [swi!(SWI_WRITE), pull!(0, 12)];
+static BYTE: [Item; 2] = [swi!(SWI_WRITE), pull!(0, NUMBERS)];
 
 static WORD: [Item; 4] = [
     swi!(SWI_WRITE),
     mov!(0, lsr 0, 8),
     swi!(SWI_WRITE),
-    pull!(0, 12),
+    pull!(0, NUMBERS),
 ];
 
 static MODE: [Item; 8] = [
@@ -157,7 +152,7 @@ static MODE: [Item; 8] = [
     swi!(SWI_WRITE),
     mov!(2, num 0),
     store!(2, BASE, COLUMN),
-    pull!(0, 12),
+    pull!(0, NUMBERS),
 ];
 
 static COLOUR: [Item; 6] = [
@@ -166,7 +161,7 @@ static COLOUR: [Item; 6] = [
     swi!(SWI_WRITE),
     mov!(0, reg 1),
     swi!(SWI_WRITE),
-    pull!(0, 12),
+    pull!(0, NUMBERS),
 ];
 
 /// Adds what a statement of output makes of a number. The only error is want of memory.
@@ -203,7 +198,7 @@ fn emit_write_mark(frag: &mut Frag, mark: Mark) -> Result<(), NoMemory>
 {
     match mark {
         Mark::Field => {
-            frag.emit_all(&[push!(0, 12)])?;
+            frag.emit_all(&[push!(0, NUMBERS)])?;
             emit_write_by(frag, TO_FIELD)
         }
         Mark::NewLine => frag.emit_all(&NEW_LINE),
@@ -219,7 +214,7 @@ fn emit_go_if_zero(frag: &mut Frag, item: u32) -> Result<(), NoMemory>
     requires few { length frag.old.places ≤ 2 ^ 32 }
     ensures { OnOk result (frag.new ≡ with_code (code_of (o.GoIfZero item)) frag.old) }
 {
-    frag.emit_all(&[cmp!(0, num 0), pull!(0, 12)])?;
+    frag.emit_all(&[cmp!(0, num 0), pull!(0, NUMBERS)])?;
     frag.branch(EQ, false, item_label(item))
 }
 
@@ -243,7 +238,7 @@ pub fn emit_op(frag: &mut Frag, op: Op, text_address: u32) -> Result<(), NoMemor
 {
     match op {
         Op::Push(value) => emit_push(frag, value),
-        Op::PushColumn => frag.emit_all(&[push!(0, 12), ldr!(0, BASE, COLUMN)]),
+        Op::PushColumn => frag.emit_all(&[push!(0, NUMBERS), ldr!(0, BASE, COLUMN)]),
         Op::PushResident(index) => emit_push_resident(frag, index),
         Op::PushInteger { name, line } => emit_push_integer(frag, name, line),
         Op::PushText(number) => emit_push_text(frag, number, text_address),

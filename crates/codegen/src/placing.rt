@@ -8,7 +8,7 @@ ghost use Rattle.codegen.specs.Operations.{raise_label, item_label};
 ghost use Rattle.codegen.specs.Program.{text_address};
 ghost use Rattle.codegen.specs.Placing.{with_place_if, item_after, with_labels, with_op, with_ops, AreOpen, addresses};
 
-use crate::addresses::address_of;
+use crate::image_texts::address_of;
 use crate::labels::item_label;
 use crate::operations::emit_op;
 use bas_ir::{Ir, Op};

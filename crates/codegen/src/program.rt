@@ -9,29 +9,19 @@ ghost use Rattle.codegen.specs.Operations.{main_label, raise_label, item_label};
 ghost use Rattle.codegen.specs.Placing.{front, with_library, with_beginning, with_program, AreOpen, addresses};
 ghost use Rattle.codegen.specs.Program.{header, prologue, program, data_bytes};
 
-use crate::addresses::text_addresses;
-use crate::data::{data_bytes, emit_bytes};
+use crate::image_texts::{data_bytes, emit_bytes, text_addresses};
 use crate::instructions::emit_process;
 use crate::labels::{CLOSING_TEXT, MAIN, RAISE, item_label};
-use crate::loads::emit_load;
+use crate::loads::{THIRD_BYTE, emit_load};
 use crate::operations::emit_end;
 use crate::placing::{add_labels, emit_ops};
+use crate::registers::{BASE, NUMBERS, NUMBERS_END, RESIDENTS, STACK, STACK_END, TEXTS, TEXTS_END};
 use arm_isa::numbers::{AL, MOV};
 use bas_ir::Ir;
 use bv_base::NoMemory;
 use code_frag::Frag;
 use runtime_lib::routines;
 use std::alloc::Global;
-
-/// The immediate of the residents' address.
-const RESIDENTS: u16 = 0x890;
-
-/// The ends of the pending numbers, of the pending strings' addresses, and of the frames of routines.
-const NUMBERS_END: u32 = 0x9a_0400;
-
-const TEXTS_END: u32 = 0x9a_9040;
-
-const STACK_END: u32 = 0xff_f000;
 
 /// Adds an image's first words, which lead to where the program begins. The only error is want of memory.
 fn emit_header(frag: &mut Frag) -> Result<(), NoMemory>
@@ -74,10 +64,17 @@ fn with_library(alloc: Global, ir: &Ir) -> Result<Frag, NoMemory>
 fn emit_prologue(frag: &mut Frag) -> Result<(), NoMemory>
     ensures { OnOk result (frag.new ≡ with_code prologue frag.old) }
 {
-    emit_process(frag, AL, MOV, 11, 0, RESIDENTS)?;
-    emit_load(frag, 12, NUMBERS_END)?;
-    emit_load(frag, 9, TEXTS_END)?;
-    emit_load(frag, 13, STACK_END)
+    emit_process(
+        frag,
+        AL,
+        MOV,
+        BASE,
+        0,
+        THIRD_BYTE + (RESIDENTS / 0x1_0000) as u16,
+    )?;
+    emit_load(frag, NUMBERS, NUMBERS_END)?;
+    emit_load(frag, TEXTS, TEXTS_END)?;
+    emit_load(frag, STACK, STACK_END)
 }
 
 /// Adds the raising of errors, and the beginning of the program. The only error is want of memory.

@@ -2,7 +2,7 @@ use Rattle.std.proofs.Common.{ap, ◌∙◌, ◌++◌}
 use Rattle.std.specs.Prelude.{flat_map}
 use Rattle.codegen.specs.Program.{text_bytes, data_bytes}
 use Rattle.codegen.proofs.DataLaws.{pieces_step, pieces_end}
-use Rattle.codegen.proofs.data.data_bytes.Goals as goal
+use Rattle.codegen.proofs.image_texts.data_bytes.Goals as goal
 
 pub loop-text-init : goal.loop-text-init
 loop-text-init c = ap (λ bytes. bytes ++ flat_map text_bytes c.args.ir.now.texts) (c.in_ok-bytes.ensures.items ∙ c.error_table.ensures)

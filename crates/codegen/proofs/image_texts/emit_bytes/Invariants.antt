@@ -1,6 +1,6 @@
 use Rattle.std.proofs.Common.{◌≡◌, ◌*◌, ◌++◌, drop}
 use Rattle.codegen.specs.Program.{packed, data_items}
-use Rattle.codegen.proofs.data.emit_bytes.Given as goal
+use Rattle.codegen.proofs.image_texts.emit_bytes.Given as goal
 
 abbrev pub invariant-loop-k : goal.invariant-loop-k
 invariant-loop-k l = record {

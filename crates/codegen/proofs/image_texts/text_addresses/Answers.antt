@@ -1,5 +1,5 @@
 use Rattle.codegen.proofs.EmitLaws.{addresses_end}
-use Rattle.codegen.proofs.addresses.text_addresses.Goals as goal
+use Rattle.codegen.proofs.image_texts.text_addresses.Goals as goal
 
 pub returns : goal.returns
 returns c =

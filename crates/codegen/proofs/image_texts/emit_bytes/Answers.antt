@@ -5,7 +5,7 @@ use Rattle.arm_isa.specs.Words.{means}
 use Rattle.code_frag.specs.Words.{FragState}
 use Rattle.codegen.specs.Program.{packed, data_items}
 use Rattle.codegen.proofs.DataLaws.{words_step}
-use Rattle.codegen.proofs.data.emit_bytes.Goals as goal
+use Rattle.codegen.proofs.image_texts.emit_bytes.Goals as goal
 
 pub loop-k-preserved : goal.loop-k-preserved
 loop-k-preserved c = record {
