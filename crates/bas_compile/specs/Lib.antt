@@ -1,8 +1,2 @@
-pub mod Grammar
-pub mod Parsing
-pub mod Refused
-pub mod Meaning
-pub mod Code
+-- The definitions of the compiler.
 pub mod Correct
-pub mod Reasons
-pub mod Agrees

@@ -1,30 +1,50 @@
 //! From the bytes of a file to those of its image.
-ghost use Rattle.std.specs.Prelude.{◌≡◌, ◌⊎◌, List, IfOk, IfErr, IsOkUnless, IsErrAnd};
+ghost use Rattle.std.specs.Prelude.{◌≡◌, ◌⊎◌, IfOk, IfErr, IsOkUnless, IsErrAnd};
+ghost use Rattle.bas_ast.specs.declared.program.Prog.{Prog as Program};
+ghost use Rattle.bas_ast.specs.WellFormed.{WellFormed};
 ghost use Rattle.bas_compile.specs.Correct.{CompilesTo};
-ghost use Rattle.bas_compile.specs.Grammar.{Accepted};
-ghost use Rattle.bas_compile.specs.Reasons.{GivesReason};
-ghost use Rattle.bas_compile.specs.Refused.{Refused, Explained};
-ghost use Rattle.bas_compile.specs.declared.item.ProgramLine.{ProgramLine as Line};
+ghost use Rattle.profile_check.specs.Files.{Accepted, Refused, FileExplained};
 ghost use Rattle.profile_check.specs.declared.refusal.Refusal.{Refusal as Reason};
+ghost use Rattle.std.specs.Prelude.{◌≤◌, length};
+ghost use Rattle.std.specs.List.{AllByRecursion};
+ghost use Rattle.bas_sem.specs.Meaning.{source_run};
+ghost use Rattle.bv_base.specs.Limits.{file_bytes, image_words};
+ghost use Rattle.bv_base.specs.Words.{AreWords};
+ghost use Rattle.bv_base.specs.declared.limits.TheConstants.{LONGEST_TEXT};
+ghost use Rattle.codegen.specs.Agrees.{Agrees};
 
-use crate::code::generate;
-use crate::parse::parse_lines;
 use arm2_machine::write_image;
-use bv_base::FILE_BYTES;
-use profile_check::{LONG_FILE, Refusal};
+use bas_ast::Prog;
+use bv_base::NoMemory;
+use codegen::generate_code;
+use ir_build::{all_have_code, build, code_in_items, code_well_formed, flat_runs_agree};
+use profile_check::{Refusal, read_program};
 use std::alloc::Global;
-use token_file::read_file;
 
+/// The words of a program's image, by its flat code. The only error is want of memory.
+fn image_of(alloc: Global, prog: &Prog) -> Result<Vec<u32>, NoMemory>
+    requires well_formed { WellFormed prog.now }
+    requires texts { AllByRecursion (λ text. length text ≤ LONGEST_TEXT) prog.now.texts }
+    requires size { prog.now.size ≤ file_bytes }
+    ensures agrees { IfOk result (λ words. Agrees (source_run prog.now) words.items) }
+    ensures are_words { IfOk result (λ words. AreWords words.items) }
+    ensures few { IfOk result (λ words. length words.items ≤ image_words) }
+{
+    code_well_formed(prog);
+    code_in_items(prog);
+    all_have_code(prog);
+    flat_runs_agree(prog);
+    let ir = build(alloc, prog)?;
+    generate_code(alloc, &ir)
+}
+
+/// The image file of a tokenised program, or why it has none.
 fn build_image(alloc: Global, bytes: &[u8]) -> Result<Vec<u8>, Refusal>
     ensures headline { IfOk result (λ contents. CompilesTo bytes.now contents.items) }
-    ensures refused { IfErr result (GivesReason bytes.now) }
+    ensures refused { IfErr result (FileExplained bytes.now) }
 {
-    if bytes.len() > FILE_BYTES as usize {
-        return Err(LONG_FILE);
-    }
-    let lines = read_file(alloc, bytes)?;
-    let program = parse_lines(alloc, &lines)?;
-    let words = generate(alloc, &program)?;
+    let prog = read_program(alloc, bytes)?;
+    let words = image_of(alloc, &prog)?;
     let contents = write_image(alloc, &words)?;
     Ok(contents)
 }
@@ -32,10 +52,10 @@ fn build_image(alloc: Global, bytes: &[u8]) -> Result<Vec<u8>, Refusal>
 /// The image file of a tokenised program, which does what the program does.
 pub fn compile(alloc: Global, bytes: &[u8]) -> Result<Vec<u8>, Refusal>
     ensures headline { IfOk result (λ contents. CompilesTo bytes.now contents.items) }
-    ensures refused { IfErr result (Explained bytes.now) }
+    ensures refused { IfErr result (FileExplained bytes.now) }
 
     // An accepted file is compiled, and a refused one refused for its reason, where there is memory.
-    ensures complete { (program : List Line) → Accepted bytes.now program → IsOkUnless result Refusal.NoMemory }
+    ensures complete { (program : Program) → Accepted bytes.now program → IsOkUnless result Refusal.NoMemory }
     ensures exact { (reason : Reason) → Refused bytes.now reason
         → IsErrAnd result (λ error. (error ≡ reason) ⊎ (error ≡ Refusal.NoMemory)) }
 {

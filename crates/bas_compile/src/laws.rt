@@ -1,25 +1,13 @@
-//! The laws of the compiler, which take no step.
-ghost use Rattle.std.specs.Prelude.{◌≡◌, ◌≢◌, ◌⊎◌, ℕ, List};
+//! The law of compiled images, which takes no step.
+ghost use Rattle.std.specs.Prelude.{◌≡◌, ◌≢◌, ℕ, List};
 ghost use Rattle.arm2_machine.specs.Image.{ImageOf};
 ghost use Rattle.arm2_machine.specs.Step.{board_run};
+ghost use Rattle.bas_compile.specs.Correct.{CompilesTo};
+ghost use Rattle.bas_sem.specs.Meaning.{source_run};
 ghost use Rattle.bv_base.specs.Words.{AreWords};
 ghost use Rattle.bv_run.specs.Outcome.{Broken};
 ghost use Rattle.bv_run.specs.declared.report.Trap.{Trap};
-ghost use Rattle.bas_compile.specs.Agrees.{Agrees, AreBytes};
-ghost use Rattle.bas_compile.specs.Correct.{CompilesTo};
-ghost use Rattle.bas_compile.specs.Meaning.{source_run};
-ghost use Rattle.bas_compile.specs.declared.item.ProgramLine.{ProgramLine as Line};
-ghost use Rattle.profile_check.specs.declared.refusal.Refusal.{Refusal as Reason};
-ghost use Rattle.bas_compile.specs.Grammar.{Accepted};
-ghost use Rattle.bas_compile.specs.Refused.{Refused};
-
-/// The law of the grammar: every file is accepted as exactly one program, or refused for exactly one reason.
-pub fn one_verdict(bytes: &[u8])
-    ensures accepted_or_refused { ((program : List Line) × Accepted bytes.now program) ⊎ ((reason : Reason) × Refused bytes.now reason) }
-    ensures accepted_once { (a b : List Line) → Accepted bytes.now a → Accepted bytes.now b → a ≡ b }
-    ensures refused_once { (a b : Reason) → Refused bytes.now a → Refused bytes.now b → a ≡ b }
-    ensures never_both { (program : List Line) (reason : Reason) → Accepted bytes.now program → Refused bytes.now reason → ⊥ }
-{}
+ghost use Rattle.codegen.specs.Agrees.{Agrees, AreBytes};
 
 /// The law of compiled images: whatever words the contents are an image of agree with the program, and their run is never
 /// broken.

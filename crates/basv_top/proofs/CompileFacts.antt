@@ -4,12 +4,11 @@ use Rattle.bv_base.specs.Limits.{file_bytes}
 use Rattle.bv_io.specs.declared.shelf.PutError.TheVariants as put_errors
 use Rattle.bv_io.specs.Log.{Put, NotPut}
 use Rattle.bv_io.specs.Shelf.{Rose, Tells}
-use Rattle.bas_compile.specs.declared.item.ProgramLine.{ProgramLine}
+use Rattle.bas_ast.specs.declared.program.Prog.{Prog}
 use Rattle.profile_check.specs.declared.refusal.Refusal.{Refusal}
 use Rattle.profile_check.specs.declared.refusal.Refusal.TheVariants as refusals
-use Rattle.bas_compile.specs.Grammar.{Accepted}
-use Rattle.bas_compile.specs.Refused.{Refused, Explained}
-use Rattle.bas_compile.proofs.Refusals.{accepted≢refused, refused_once}
+use Rattle.profile_check.specs.Files.{Accepted, Refused, FileExplained}
+use Rattle.profile_check.proofs.FileVerdicts.{never_both, refused_once}
 use Rattle.basv_top.specs.declared.status.Status.TheVariants as statuses
 use Rattle.basv_top.specs.Ending as endings
 use Rattle.basv_top.specs.Ending.{Ending, status_of, refusal_status, long_file}
@@ -20,14 +19,14 @@ use Rattle.basv_top.proofs.Taken.{taken_is, taken_before_is, missing≢taken, un
 use Rattle.basv_top.proofs.Statuses.{refused≢}
 
 -- a refusal that is explained, of bytes that are accepted, wants memory
-explained_accepted : (bytes : List ℕ) (program : List ProgramLine) (reason : Refusal) → Accepted bytes program → Explained bytes reason → refusal_status reason ≡ statuses.NoMemory
+explained_accepted : (bytes : List ℕ) (program : Prog) (reason : Refusal) → Accepted bytes program → FileExplained bytes reason → refusal_status reason ≡ statuses.NoMemory
 explained_accepted bytes program refusals.NoMemory accepted why = refl
-explained_accepted bytes program (refusals.Malformed at) accepted why = absurd (accepted≢refused bytes program (refusals.Malformed at) accepted why)
-explained_accepted bytes program (refusals.Outside line) accepted why = absurd (accepted≢refused bytes program (refusals.Outside line) accepted why)
-explained_accepted bytes program (refusals.Limit which count) accepted why = absurd (accepted≢refused bytes program (refusals.Limit which count) accepted why)
+explained_accepted bytes program (refusals.Malformed at) accepted why = absurd (never_both bytes program (refusals.Malformed at) accepted why)
+explained_accepted bytes program (refusals.Outside line) accepted why = absurd (never_both bytes program (refusals.Outside line) accepted why)
+explained_accepted bytes program (refusals.Limit which count) accepted why = absurd (never_both bytes program (refusals.Limit which count) accepted why)
 
 -- a refusal that is explained, of bytes that are refused, has their reason or wants memory
-explained_refused : (bytes : List ℕ) (reason given : Refusal) → Refused bytes reason → Explained bytes given → (refusal_status given ≡ refusal_status reason) ⊎ (refusal_status given ≡ statuses.NoMemory)
+explained_refused : (bytes : List ℕ) (reason given : Refusal) → Refused bytes reason → FileExplained bytes given → (refusal_status given ≡ refusal_status reason) ⊎ (refusal_status given ≡ statuses.NoMemory)
 explained_refused bytes reason refusals.NoMemory refused why = inr refl
 explained_refused bytes reason (refusals.Malformed at) refused why = inl (ap refusal_status (refused_once bytes (refusals.Malformed at) reason why refused))
 explained_refused bytes reason (refusals.Outside line) refused why = inl (ap refusal_status (refused_once bytes (refusals.Outside line) reason why refused))
@@ -50,7 +49,7 @@ module _ (before after : SeenShelf) (file image : List ℕ) where
   headline (endings.Ran end bound) (inl fails) is = absurd fails
   headline (endings.Ran end bound) (inr ends) is = absurd ends.2
 
-  complete : (bytes : List ℕ) (program : List ProgramLine) (ending : Ending) → EndsCompile before after file image ending → IsContent before after file bytes → Accepted bytes program
+  complete : (bytes : List ℕ) (program : Prog) (ending : Ending) → EndsCompile before after file image ending → IsContent before after file bytes → Accepted bytes program
       → (Rose before.put_faults after.put_faults → ⊥) → (status_of ending ≡ statuses.Done) ⊎ (status_of ending ≡ statuses.NoMemory)
   complete bytes program ending (inl fails) is accepted calm =
       elim (untaken_content before after file file_bytes long_file bytes ending fails is) [
@@ -61,7 +60,7 @@ module _ (before after : SeenShelf) (file image : List ℕ) where
   complete bytes program endings.Usage (inr ends) is accepted calm = absurd ends.2
   complete bytes program (endings.Refused reason) (inr (given, tells, inl why)) is accepted calm =
       let same = taken_is before after file bytes given why.0 tells is in
-      inr (explained_accepted bytes program reason accepted (subst (λ b. Explained b reason) same why.1))
+      inr (explained_accepted bytes program reason accepted (subst (λ b. FileExplained b reason) same why.1))
   complete bytes program (endings.Refused reason) (inr (given, tells, inr why)) is accepted calm = inr (ap refusal_status why.2)
   complete bytes program (endings.ReadFault name) (inr ends) is accepted calm = absurd ends.2
   complete bytes program endings.WriteFault (inr ends) is accepted calm = absurd (calm ends.2.3)
@@ -78,16 +77,16 @@ module _ (before after : SeenShelf) (file image : List ℕ) where
       ]
   refused bytes reason endings.Done (inr (given, tells, puts)) is why =
       let same = taken_before_is before after file bytes given (Put image puts.contents) puts.logged tells is in
-      absurd (accepted≢refused bytes puts.compiled.program reason (subst (λ b. Accepted b puts.compiled.program) same puts.compiled.accepted) why)
+      absurd (never_both bytes puts.compiled.program reason (subst (λ b. Accepted b puts.compiled.program) same puts.compiled.accepted) why)
   refused bytes reason endings.Usage (inr ends) is why = absurd ends.2
   refused bytes reason (endings.Refused other) (inr (given, tells, inl explained)) is why =
       let same = taken_is before after file bytes given explained.0 tells is in
-      explained_refused bytes reason other why (subst (λ b. Explained b other) same explained.1)
+      explained_refused bytes reason other why (subst (λ b. FileExplained b other) same explained.1)
   refused bytes reason (endings.Refused other) (inr (given, tells, inr explained)) is why = inr (ap refusal_status explained.2)
   refused bytes reason (endings.ReadFault name) (inr ends) is why = absurd ends.2
   refused bytes reason endings.WriteFault (inr (given, tells, puts)) is why =
       let same = taken_before_is before after file bytes given (NotPut image puts.0 put_errors.Failed) puts.2 tells is in
-      absurd (accepted≢refused bytes puts.1.program reason (subst (λ b. Accepted b puts.1.program) same puts.1.accepted) why)
+      absurd (never_both bytes puts.1.program reason (subst (λ b. Accepted b puts.1.program) same puts.1.accepted) why)
   refused bytes reason (endings.NotImage at) (inr ends) is why = absurd ends.2
   refused bytes reason (endings.BadText piece) (inr ends) is why = absurd ends.2
   refused bytes reason (endings.Ran end bound) (inr ends) is why = absurd ends.2

@@ -4,12 +4,12 @@ use Rattle.bv_base.specs.Limits.{file_bytes}
 use Rattle.bv_io.specs.declared.shelf.PutError.TheVariants as put_errors
 use Rattle.bv_io.specs.Log.{Took, Put, NotPut}
 use Rattle.bv_io.specs.Shelf.{Rose, Tells}
-use Rattle.bas_compile.specs.declared.item.ProgramLine.{ProgramLine}
+use Rattle.bas_ast.specs.declared.program.Prog.{Prog}
 use Rattle.profile_check.specs.declared.refusal.Refusal.{Refusal}
 use Rattle.profile_check.specs.declared.refusal.Refusal.TheVariants as refusals
 use Rattle.bas_compile.specs.Correct.{CompilesTo}
-use Rattle.bas_compile.specs.Grammar.{Accepted}
-use Rattle.bas_compile.specs.Refused as refused
+use Rattle.profile_check.specs.Files as files
+use Rattle.profile_check.specs.Files.{Accepted}
 use Rattle.basv_top.specs.declared.status.Status.{Status}
 use Rattle.basv_top.specs.declared.status.Status.TheVariants as statuses
 use Rattle.basv_top.specs.Ending.{Ending, Done, Usage, Refused, ReadFault, WriteFault, NotImage, BadText, Ran, refusal_status, long_file}
@@ -32,7 +32,7 @@ abbrev pub BytesEndCompile : SeenShelf → SeenShelf → List ℕ → List ℕ �
 BytesEndCompile before after file image bytes Done = PutsImage before after file image bytes
 BytesEndCompile before after file image bytes Usage = ⊥
 BytesEndCompile before after file image bytes (Refused reason) =
-    (OnlyTook before after file bytes × refused.Explained bytes reason)
+    (OnlyTook before after file bytes × files.FileExplained bytes reason)
     ⊎ ((contents : List ℕ) × (after.log ≡ NotPut image contents put_errors.NoMemory ∷ Took file bytes ∷ before.log) × (reason ≡ refusals.NoMemory))
 BytesEndCompile before after file image bytes (ReadFault name) = ⊥
 BytesEndCompile before after file image bytes WriteFault =
@@ -58,10 +58,10 @@ pub record Compiles (before after : SeenShelf) (out_before out_after : SeenSink)
   -- as, on every input; and it asked nothing else of the shelf.
   pub headline : status ≡ statuses.Done → (bytes : List ℕ) × Tells (before.content file) (Some bytes) × PutsImage before after file image bytes
   -- an accepted file is compiled, where the shelf failed at no put and there was memory
-  pub complete : (bytes : List ℕ) (program : List ProgramLine) → IsContent before after file bytes → Accepted bytes program
+  pub complete : (bytes : List ℕ) (program : Prog) → IsContent before after file bytes → Accepted bytes program
       → (Rose before.put_faults after.put_faults → ⊥) → (status ≡ statuses.Done) ⊎ (status ≡ statuses.NoMemory)
   -- a refused file is refused for its reason, where there was memory
-  pub refused : (bytes : List ℕ) (reason : Refusal) → IsContent before after file bytes → refused.Refused bytes reason
+  pub refused : (bytes : List ℕ) (reason : Refusal) → IsContent before after file bytes → files.Refused bytes reason
       → (status ≡ refusal_status reason) ⊎ (status ≡ statuses.NoMemory)
   -- a file that isn't there can't be read
   pub missing : before.content file ≡ Some None → (status ≡ statuses.ReadFault) ⊎ (status ≡ statuses.NoMemory)

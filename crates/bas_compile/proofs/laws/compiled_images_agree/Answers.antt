@@ -1,4 +1,4 @@
-use Rattle.bas_compile.proofs.Compiled.{words_agree}
+use Rattle.bas_compile.proofs.Composed.{words_agree}
 use Rattle.bas_compile.proofs.laws.compiled_images_agree.Goals as goal
 
 pub returns-clause-agrees : goal.returns-clause-agrees
