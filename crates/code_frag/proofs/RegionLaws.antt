@@ -6,6 +6,8 @@ pub regions_in_order : RegionsInOrder
 regions_in_order = record {
   residents = refl;
   column = refl;
+  opened_count = refl;
+  depth = refl;
   words = omega arith;
   cells = omega arith;
   arrays = omega arith;

@@ -43,9 +43,17 @@ residents_start = data_start
 abbrev pub column_at : ℕ
 column_at = 0x90006c
 
+-- the number of open loops and GOSUBs
+abbrev pub opened_count_at : ℕ
+opened_count_at = 0x900070
+
+-- the depth of the call that runs, 0 outside of calls
+abbrev pub depth_at : ℕ
+depth_at = 0x900074
+
 -- the other words of the state: handler, ERR, ERL, the place of DATA, the address for DIM
 abbrev pub words_start : ℕ
-words_start = 0x900070
+words_start = 0x900078
 
 -- the integers of names: for each its number and the word that says whether it was made
 abbrev pub cells_start : ℕ
@@ -113,7 +121,9 @@ pending_numbers = 256
 -- the regions lie in this order, and each has room for what is in it
 pub record RegionsInOrder : Type 0 where
   pub residents : residents_start + 4 * 27 ≡ column_at
-  pub column : column_at + 4 ≡ words_start
+  pub column : column_at + 4 ≡ opened_count_at
+  pub opened_count : opened_count_at + 4 ≡ depth_at
+  pub depth : depth_at + 4 ≡ words_start
   pub words : words_start ≤ cells_start
   pub cells : cells_start + 8 * limit.names ≤ arrays_start
   pub arrays : arrays_start + 16 * limit.names ≤ numbers_start
