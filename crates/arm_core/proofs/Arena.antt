@@ -1,7 +1,7 @@
 -- The arena of a board is what a core has there.
 use Rattle.std.proofs.Common.{◌≡◌, ℕ, zero, suc, ◌+◌, ◌-◌, ◌<◌, ◌≤◌, List, [], ◌∷◌, length, take, drop, slice_index, refl, sym, ap, ◌∙◌, arith}
 use Rattle.std.proofs.lemmas.List.{ext_get_or, get_or-take, get_or-drop, length-take-le, length-drop}
-use Rattle.bv_base.specs.MemoryMap.{ram_end, arena_start, arena_end, arena_bytes}
+use Rattle.bv_base.specs.MemoryMap.{arena_start, arena_end, arena_bytes}
 use Rattle.arm2_cpu.specs.Memory.{byte_at}
 use Rattle.arm2_machine.specs.Machine.{Machine, arena_of}
 use Rattle.arm_core.specs.Core.{Core, IsAt}

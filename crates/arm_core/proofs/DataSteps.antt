@@ -1,28 +1,29 @@
 -- The steps of data processing and of multiplication.
-use Rattle.std.proofs.Common.{◌≡◌, ℕ, ◌+◌, ◌*◌, ◌%◌, ◌^◌, ◌<◌, ◌==◌, ◌&&◌, ◌||◌, not, nat_lt, Bool, true, false, if◌then◌else◌, List, [], refl, sym, ap, subst, ◌∙◌, arith, ltb-true, append-nil}
-use Rattle.std.proofs.lemmas.Bool.{and_parts, not-true, false≢true}
+use Rattle.std.proofs.Common.{◌≡◌, ℕ, ◌+◌, ◌*◌, ◌%◌, ◌^◌, ◌<◌, ◌⊎◌, ◌==◌, ◌&&◌, ◌||◌, not, nat_lt, Bool, true, false, if◌then◌else◌, List, [], inl, inr, refl, sym, ap, subst, ◌∙◌, arith, ltb-true, append-nil}
+use Rattle.std.proofs.lemmas.Bool.{and_parts, not-true, false≢true, ne_eqb}
 use Rattle.bv_base.specs.MemoryMap.{ram_end}
+use Rattle.arm_isa.specs.Fields.{bits, bit}
 use Rattle.arm_isa.specs.declared.instruction.Instr.{Instr}
 use Rattle.arm_isa.specs.declared.instruction.Instr.TheVariants.{Data, Mul}
 use Rattle.arm2_alu.specs.declared.operations.Computed.{Computed}
 use Rattle.arm2_alu.specs.declared.regs.Regs.{Regs}
 use Rattle.arm2_alu.specs.declared.shifts.Shifted.{Shifted}
 use Rattle.arm2_alu.specs.Conditions.{carry, overflow, holds}
-use Rattle.arm2_alu.specs.Operands.{by_register}
+use Rattle.arm2_alu.specs.Operands.{ahead_of, second_operand}
 use Rattle.arm2_alu.specs.Operations.{is_test, computed}
 use Rattle.arm2_alu.specs.Registers.{register, with_register, at_next}
 use Rattle.arm2_alu.specs.Results.{flagged}
 use Rattle.arm2_alu.proofs.ValueLaws.{value_of, value-computed, first-register}
 use Rattle.arm2_cpu.specs.Step.{cpu_step}
-use Rattle.arm2_cpu.proofs.StepBasics.{goes, step-skipped, condition_of}
-use Rattle.arm2_cpu.proofs.StepLaws.{outcome, outcome-of, step-data, step-data_flags, step-test}
+use Rattle.arm2_cpu.proofs.StepBasics.{Fetches, goes, step-skipped, condition_of}
+use Rattle.arm2_cpu.proofs.StepLaws.{outcome, step-data, step-data_by_register, step-data_flags, step-data_flags_by_register, step-test, step-test_by_register}
 use Rattle.arm2_cpu.proofs.TransferLaws.{multiply_outcome, step-mul, step-mla, step-muls, step-mlas}
 use Rattle.arm2_machine.specs.Machine.{Machine, board_space}
 use Rattle.arm_core.specs.Core.{Core, put, meets, IsAt}
-use Rattle.arm_core.specs.Effects.{operand_in, result_of, flagged_by, computes, on_condition, product_in, is_plain_register, is_plain_data, is_plain_multiply}
+use Rattle.arm_core.specs.Effects.{operand_in, result_of, flagged_by, computes, on_condition, product_in, is_plain_operand, is_plain_data, is_plain_multiply}
 use Rattle.arm_core.specs.Made.{Makes, AtInstruction}
 use Rattle.arm_core.proofs.States.{reads, reads-carry, reads-overflow, reads-condition, fetches, supervised, is-next, is-put, is-flagged}
-use Rattle.arm_core.proofs.Values.{plain-parts, operand-lt, operand-is, result-is, result-lt}
+use Rattle.arm_core.proofs.Values.{operand-parts, operand-lt, operand-is, result-is, result-lt}
 
 -- a step of the processor that writes nothing
 pub made : (s t : Core) (pc to : ℕ) (m : Machine) (r : Regs) (ram : List ℕ) → IsAt s pc m → cpu_step board_space m.regs m.ram ≡ goes r ram → t.out ≡ s.out
@@ -46,22 +47,53 @@ is-flagged_as s pc m y x is same = subst (λ z. IsAt (flagged_by x s) pc (record
 
 -- ---- data processing
 
-amount_in_number : (imm : Bool) (op2 : ℕ) → (imm || is_plain_register op2) ≡ true → by_register imm op2 ≡ false
-amount_in_number true op2 plain = refl
-amount_in_number false op2 plain = (plain-parts op2 plain).0
+-- the number of bits of a shift is in the instruction, or in a register below R15
+abbrev IsCounted : Bool → ℕ → Type 0
+IsCounted true op2 = Unit {0}
+IsCounted false op2 = (bit op2 4 ≡ false) ⊎ ((bits op2 11 8 == 15) ≡ false)
+
+counted : (imm : Bool) (op2 : ℕ) → (imm || is_plain_operand op2) ≡ true → IsCounted imm op2
+counted true op2 plain = tt
+counted false op2 plain = each (bit op2 4) refl
+  where
+    each : (b : Bool) → bit op2 4 ≡ b → (bit op2 4 ≡ false) ⊎ ((bits op2 11 8 == 15) ≡ false)
+    each true e = inr (let low = (operand-parts op2 plain).1 e in ne_eqb (bits op2 11 8) 15 (λ f. omega (arith, f, low)))
+    each false e = inl e
+
+-- the steps of the processor, with either
+test_step : (m : Machine) (cond : ℕ) (imm : Bool) (op rn rd op2 : ℕ) (x : Computed) → Fetches board_space m.regs m.ram (Data cond imm op true rn rd op2) → holds cond m.regs ≡ true → is_test op ≡ true → IsCounted imm op2 → rd < 15
+    → outcome m.regs imm op rn op2 ≡ x → cpu_step board_space m.regs m.ram ≡ goes (at_next (flagged x m.regs)) m.ram
+test_step m cond true op rn rd op2 x f holding test c low is = step-test board_space m.regs m.ram cond true op rn rd op2 x f holding test refl low is
+test_step m cond false op rn rd op2 x f holding test (inl c) low is = step-test board_space m.regs m.ram cond false op rn rd op2 x f holding test c low is
+test_step m cond false op rn rd op2 x f holding test (inr c) low is = step-test_by_register board_space m.regs m.ram cond op rn rd op2 x f holding test c low is
+
+flags_step : (m : Machine) (cond : ℕ) (imm : Bool) (op rn rd op2 : ℕ) (x : Computed) → Fetches board_space m.regs m.ram (Data cond imm op true rn rd op2) → holds cond m.regs ≡ true → is_test op ≡ false → IsCounted imm op2 → rd < 15
+    → outcome m.regs imm op rn op2 ≡ x → cpu_step board_space m.regs m.ram ≡ goes (at_next (with_register (flagged x m.regs) rd x.value)) m.ram
+flags_step m cond true op rn rd op2 x f holding test c low is = step-data_flags board_space m.regs m.ram cond true op rn rd op2 x f holding test refl low is
+flags_step m cond false op rn rd op2 x f holding test (inl c) low is = step-data_flags board_space m.regs m.ram cond false op rn rd op2 x f holding test c low is
+flags_step m cond false op rn rd op2 x f holding test (inr c) low is = step-data_flags_by_register board_space m.regs m.ram cond op rn rd op2 x f holding test c low is
+
+plain_step : (m : Machine) (cond : ℕ) (imm : Bool) (op rn rd op2 b : ℕ) → Fetches board_space m.regs m.ram (Data cond imm op false rn rd op2) → holds cond m.regs ≡ true → is_test op ≡ false → IsCounted imm op2 → rn < 15 → rd < 15
+    → (second_operand m.regs imm op2).value ≡ b → register m.regs rn < 2 ^ 32 → b < 2 ^ 32 → cpu_step board_space m.regs m.ram ≡ goes (at_next (with_register m.regs rd (value_of op (register m.regs rn) b (carry m.regs)))) m.ram
+plain_step m cond true op rn rd op2 b f holding test c from low is small below =
+    step-data board_space m.regs m.ram cond true op rn rd op2 (register m.regs rn) b f holding test refl low (first-register m.regs 8 rn from) is small below
+plain_step m cond false op rn rd op2 b f holding test (inl c) from low is small below =
+    step-data board_space m.regs m.ram cond false op rn rd op2 (register m.regs rn) b f holding test c low (first-register m.regs 8 rn from) is small below
+plain_step m cond false op rn rd op2 b f holding test (inr c) from low is small below =
+    step-data_by_register board_space m.regs m.ram cond op rn rd op2 b f holding test c from low is small below
 
 -- the parts of a plain instruction
 record DataParts (imm : Bool) (op : ℕ) (flags : Bool) (rn rd op2 : ℕ) : Type 0 where
   tests : (not (is_test op) || flags) ≡ true
   first : rn < 15
   last : rd < 15
-  second : (imm || is_plain_register op2) ≡ true
+  second : (imm || is_plain_operand op2) ≡ true
 
 data_parts : (imm : Bool) (op : ℕ) (flags : Bool) (rn rd op2 : ℕ) → is_plain_data imm op flags rn rd op2 ≡ true → DataParts imm op flags rn rd op2
 data_parts imm op flags rn rd op2 plain =
-    let a = and_parts (not (is_test op) || flags) (nat_lt rn 15 && (nat_lt rd 15 && (imm || is_plain_register op2))) plain in
-    let b = and_parts (nat_lt rn 15) (nat_lt rd 15 && (imm || is_plain_register op2)) a.1 in
-    let c = and_parts (nat_lt rd 15) (imm || is_plain_register op2) b.1 in
+    let a = and_parts (not (is_test op) || flags) (nat_lt rn 15 && (nat_lt rd 15 && (imm || is_plain_operand op2))) plain in
+    let b = and_parts (nat_lt rn 15) (nat_lt rd 15 && (imm || is_plain_operand op2)) a.1 in
+    let c = and_parts (nat_lt rd 15) (imm || is_plain_operand op2) b.1 in
     record { tests = a.0; first = ltb-true rn 15 b.0; last = ltb-true rd 15 c.0; second = c.1 }
 
 module _ (s : Core) (pc : ℕ) (m : Machine) (cond : ℕ) (imm : Bool) (op rn rd op2 : ℕ) (flags : Bool) (at : AtInstruction s pc m (Data cond imm op flags rn rd op2)) (parts : DataParts imm op flags rn rd op2) (holding : holds cond m.regs ≡ true) where
@@ -78,16 +110,16 @@ module _ (s : Core) (pc : ℕ) (m : Machine) (cond : ℕ) (imm : Bool) (op rn rd
 
   outcome_is : outcome m.regs imm op rn op2 ≡ result
   outcome_is =
-      outcome-of m.regs imm op rn op2 (s.regs rn) (operand_in imm op2 s) (amount_in_number imm op2 parts.second)
-      (first-register m.regs 8 rn parts.first ∙ first_value) (operand-is s pc m imm op2 at.is parts.second)
+      (λ i. computed op ((first-register m.regs (ahead_of imm op2) rn parts.first ∙ first_value) i) (operand-is s pc m imm op2 at.is parts.second i) (carry m.regs) (overflow m.regs))
       ∙ by_core
 
   result_small : result.value < 2 ^ 32
   result_small = result-lt op (s.regs rn) (operand_in imm op2 s) s.c s.v (at.is.good.regs rn) (operand-lt imm op2 s at.is.good)
 
-  value_is : value_of op (s.regs rn) (operand_in imm op2 s).value (carry m.regs) ≡ result.value
+  value_is : value_of op (register m.regs rn) (operand_in imm op2 s).value (carry m.regs) ≡ result.value
   value_is =
-      sym (value-computed op (s.regs rn) (operand_in imm op2 s) (carry m.regs) (overflow m.regs) (at.is.good.regs rn) (operand-lt imm op2 s at.is.good))
+      ap (λ a. value_of op a (operand_in imm op2 s).value (carry m.regs)) first_value
+      ∙ sym (value-computed op (s.regs rn) (operand_in imm op2 s) (carry m.regs) (overflow m.regs) (at.is.good.regs rn) (operand-lt imm op2 s at.is.good))
       ∙ ap (λ (x : Computed). x.value) by_core
 
 data_tested : (s : Core) (pc : ℕ) (m : Machine) (cond : ℕ) (imm : Bool) (op rn rd op2 : ℕ) (at : AtInstruction s pc m (Data cond imm op true rn rd op2)) (parts : DataParts imm op true rn rd op2)
@@ -95,7 +127,7 @@ data_tested : (s : Core) (pc : ℕ) (m : Machine) (cond : ℕ) (imm : Bool) (op 
 data_tested s pc m cond imm op rn rd op2 at parts holding test =
     let x = result_of op (s.regs rn) (operand_in imm op2 s) s.c s.v in
     made s (flagged_by x s) pc (pc + 4) m _ m.ram at.is
-    (step-test board_space m.regs m.ram cond imm op rn rd op2 x (fetches s pc m _ at) holding test (amount_in_number imm op2 parts.second) parts.last (outcome_is s pc m cond imm op rn rd op2 true at parts holding))
+    (test_step m cond imm op rn rd op2 x (fetches s pc m _ at) holding test (counted imm op2 parts.second) parts.last (outcome_is s pc m cond imm op rn rd op2 true at parts holding))
     refl
     (is-next (flagged_by x s) pc _ (is-flagged s pc m x at.is) at.inside)
 
@@ -105,7 +137,7 @@ data_flagged : (s : Core) (pc : ℕ) (m : Machine) (cond : ℕ) (imm : Bool) (op
 data_flagged s pc m cond imm op rn rd op2 at parts holding test =
     let x = result_of op (s.regs rn) (operand_in imm op2 s) s.c s.v in
     made s (put rd x.value (flagged_by x s)) pc (pc + 4) m _ m.ram at.is
-    (step-data_flags board_space m.regs m.ram cond imm op rn rd op2 x (fetches s pc m _ at) holding test (amount_in_number imm op2 parts.second) parts.last (outcome_is s pc m cond imm op rn rd op2 true at parts holding))
+    (flags_step m cond imm op rn rd op2 x (fetches s pc m _ at) holding test (counted imm op2 parts.second) parts.last (outcome_is s pc m cond imm op rn rd op2 true at parts holding))
     refl
     (is-next (put rd x.value (flagged_by x s)) pc _ (is-put (flagged_by x s) pc _ rd x.value x.value (is-flagged s pc m x at.is) parts.last refl (result_small s pc m cond imm op rn rd op2 true at parts holding)) at.inside)
 
@@ -116,10 +148,9 @@ data_plain s pc m cond imm op rn rd op2 at parts holding test =
     let x = result_of op (s.regs rn) (operand_in imm op2 s) s.c s.v in
     let b = operand_in imm op2 s in
     made s (put rd x.value s) pc (pc + 4) m _ m.ram at.is
-    (step-data board_space m.regs m.ram cond imm op rn rd op2 (s.regs rn) b.value (fetches s pc m _ at) holding test (amount_in_number imm op2 parts.second) parts.last
-    (first-register m.regs 8 rn parts.first ∙ reads s pc m at.is rn parts.first)
+    (plain_step m cond imm op rn rd op2 b.value (fetches s pc m _ at) holding test (counted imm op2 parts.second) parts.first parts.last
     (ap (λ (y : Shifted). y.value) (operand-is s pc m imm op2 at.is parts.second))
-    (at.is.good.regs rn) (operand-lt imm op2 s at.is.good))
+    (omega (arith, first_value s pc m cond imm op rn rd op2 false at parts holding, at.is.good.regs rn)) (operand-lt imm op2 s at.is.good))
     refl
     (is-next (put rd x.value s) pc _ (is-put s pc m rd _ x.value at.is parts.last (value_is s pc m cond imm op rn rd op2 false at parts holding) (result_small s pc m cond imm op rn rd op2 false at parts holding)) at.inside)
 

@@ -1,5 +1,5 @@
 -- What operands and operations give on a core, and that it is a word.
-use Rattle.std.proofs.Common.{◌≡◌, ℕ, ◌+◌, ◌*◌, ◌/◌, ◌%◌, ◌^◌, ◌<◌, ◌==◌, ◌&&◌, ◌||◌, not, nat_lt, Bool, true, false, if◌then◌else◌, refl, ap, ◌∙◌, arith, ltb-true, eqb-true}
+use Rattle.std.proofs.Common.{◌≡◌, ℕ, ◌+◌, ◌*◌, ◌/◌, ◌%◌, ◌^◌, ◌<◌, ◌==◌, ◌&&◌, ◌||◌, not, nat_lt, Bool, true, false, if◌then◌else◌, refl, sym, ap, ◌∙◌, arith, ltb-true, eqb-true}
 use Rattle.std.proofs.lemmas.Bool.{and_parts, not-true}
 use Rattle.std.proofs.Math.Nat.{div-le_self}
 use Rattle.std.specs.Int.{from_bool}
@@ -10,14 +10,14 @@ use Rattle.arm_isa.proofs.ImmediateLaws.{immediate_value-lt}
 use Rattle.arm_isa.proofs.Rotations.{rotated-lt}
 use Rattle.arm2_alu.specs.declared.operations.Computed.{Computed}
 use Rattle.arm2_alu.specs.declared.shifts.Shifted.{Shifted}
-use Rattle.arm2_alu.specs.Operands.{immediate_operand, amount_operand, second_operand}
+use Rattle.arm2_alu.specs.Operands.{immediate_operand, amount_operand, register_operand, second_operand}
 use Rattle.arm2_alu.specs.Operations.{computed, logical}
 use Rattle.arm2_alu.specs.Shifts.{complement, complemented, shifted_left, shifted_right, shifted_signed, turned_right, shifted, rotated_through_carry, shifted_by_field}
 use Rattle.arm2_alu.proofs.ShiftValues.{field-lsl_0}
 use Rattle.arm2_alu.proofs.ValueLaws.{value-computed, value-lt, whole-register, subtracted-compared, computed-add, computed-adc, subtracted-borrowed}
 use Rattle.arm2_machine.specs.Machine.{Machine}
 use Rattle.arm_core.specs.Core.{Core, IsGood, IsAt}
-use Rattle.arm_core.specs.Effects.{shifted_register, operand_in, bitwise, result_of, is_plain_register}
+use Rattle.arm_core.specs.Effects.{shifted_register, shifted_by_register, operand_in, bitwise, result_of, is_plain_register, is_plain_operand}
 use Rattle.arm_core.proofs.States.{reads, reads-carry}
 
 -- ---- shifts give words
@@ -65,11 +65,15 @@ field-lt kind n by c small = each (by == 0) (kind == LSL) (kind == LSR) (kind ==
 
 pub operand-lt : (imm : Bool) (op2 : ℕ) (s : Core) → IsGood s → (operand_in imm op2 s).value < 2 ^ 32
 operand-lt true op2 s good = immediate_value-lt op2
-operand-lt false op2 s good = each (bits op2 11 4 == 0)
+operand-lt false op2 s good = by_kind (bit op2 4)
   where
     each : (b : Bool) → (if b then record { value = s.regs (bits op2 3 0); carry = s.c } else shifted_by_field (bits op2 6 5) (s.regs (bits op2 3 0)) (bits op2 11 7) s.c).value < 2 ^ 32
     each true = good.regs (bits op2 3 0)
     each false = field-lt (bits op2 6 5) (s.regs (bits op2 3 0)) (bits op2 11 7) s.c (good.regs (bits op2 3 0))
+
+    by_kind : (b : Bool) → (if b then shifted_by_register op2 s else shifted_register op2 s).value < 2 ^ 32
+    by_kind true = shifted-lt (bits op2 6 5) (s.regs (bits op2 3 0)) (s.regs (bits op2 11 8) % 2 ^ 8) s.c (good.regs (bits op2 3 0))
+    by_kind false = each (bits op2 11 4 == 0)
 
 -- ---- operands
 
@@ -79,6 +83,16 @@ plain-parts op2 plain =
     let rest = (and_parts (nat_lt op2 (2 ^ 12)) (not (bit op2 4) && nat_lt (bits op2 3 0) 15) plain).1 in
     let parts = and_parts (not (bit op2 4)) (nat_lt (bits op2 3 0) 15) rest in
     (not-true (bit op2 4) parts.0, ltb-true (bits op2 3 0) 15 parts.1)
+
+-- and of a plain second operand
+pub operand-parts : (op2 : ℕ) → is_plain_operand op2 ≡ true → (bits op2 3 0 < 15) × (bit op2 4 ≡ true → bits op2 11 8 < 15)
+operand-parts op2 plain =
+    let rest = (and_parts (nat_lt op2 (2 ^ 12)) (nat_lt (bits op2 3 0) 15 && (not (bit op2 4) || (not (bit op2 7) && nat_lt (bits op2 11 8) 15))) plain).1 in
+    let parts = and_parts (nat_lt (bits op2 3 0) 15) (not (bit op2 4) || (not (bit op2 7) && nat_lt (bits op2 11 8) 15)) rest in (
+      ltb-true (bits op2 3 0) 15 parts.0,
+      λ e. let there : (not (bit op2 7) && nat_lt (bits op2 11 8) 15) ≡ true = sym (λ i. not (e i) || (not (bit op2 7) && nat_lt (bits op2 11 8) 15)) ∙ parts.1 in
+          ltb-true (bits op2 11 8) 15 (and_parts (not (bit op2 7)) (nat_lt (bits op2 11 8) 15) there).1,
+    )
 
 amount_is : (s : Core) (pc : ℕ) (m : Machine) (op2 : ℕ) → IsAt s pc m → bit op2 4 ≡ false → bits op2 3 0 < 15 → amount_operand m.regs op2 ≡ shifted_register op2 s
 unfolding amount_operand
@@ -99,10 +113,20 @@ amount_is s pc m op2 is clear low =
 pub amount-is : (s : Core) (pc : ℕ) (m : Machine) (op2 : ℕ) → IsAt s pc m → is_plain_register op2 ≡ true → amount_operand m.regs op2 ≡ shifted_register op2 s
 amount-is s pc m op2 is plain = let parts = plain-parts op2 plain in amount_is s pc m op2 is parts.0 parts.1
 
-pub operand-is : (s : Core) (pc : ℕ) (m : Machine) (imm : Bool) (op2 : ℕ) → IsAt s pc m → (imm || is_plain_register op2) ≡ true → second_operand m.regs imm op2 ≡ operand_in imm op2 s
+-- a register that is shifted by another
+by_register_is : (s : Core) (pc : ℕ) (m : Machine) (op2 : ℕ) → IsAt s pc m → bits op2 3 0 < 15 → bits op2 11 8 < 15 → register_operand m.regs op2 ≡ shifted_by_register op2 s
+unfolding register_operand
+by_register_is s pc m op2 is low count =
+    (λ i. shifted (bits op2 6 5) ((whole-register m.regs 12 (bits op2 3 0) low ∙ reads s pc m is (bits op2 3 0) low) i) (reads s pc m is (bits op2 11 8) count i % 2 ^ 8) (reads-carry s m.regs is.psr i))
+
+pub operand-is : (s : Core) (pc : ℕ) (m : Machine) (imm : Bool) (op2 : ℕ) → IsAt s pc m → (imm || is_plain_operand op2) ≡ true → second_operand m.regs imm op2 ≡ operand_in imm op2 s
 unfolding second_operand immediate_operand
 operand-is s pc m true op2 is plain = (λ i. record { value = immediate_value op2; carry = if bits op2 11 8 == 0 then reads-carry s m.regs is.psr i else bit (immediate_value op2) 31 })
-operand-is s pc m false op2 is plain = let parts = plain-parts op2 plain in rw parts.0 (amount_is s pc m op2 is parts.0 parts.1)
+operand-is s pc m false op2 is plain = each (bit op2 4) refl
+  where
+    each : (b : Bool) → bit op2 4 ≡ b → (if b then register_operand m.regs op2 else amount_operand m.regs op2) ≡ (if b then shifted_by_register op2 s else shifted_register op2 s)
+    each true e = let parts = operand-parts op2 plain in by_register_is s pc m op2 is parts.0 (parts.1 e)
+    each false e = amount_is s pc m op2 is e (operand-parts op2 plain).0
 
 -- ---- operations
 

@@ -14,7 +14,7 @@ use Rattle.arm2_alu.specs.declared.operations.Computed.{Computed}
 use Rattle.arm2_alu.specs.declared.shifts.Shifted.{Shifted}
 use Rattle.arm2_alu.specs.Conditions.{same}
 use Rattle.arm2_alu.specs.Operations.{is_test}
-use Rattle.arm2_alu.specs.Shifts.{complement, shifted_by_field}
+use Rattle.arm2_alu.specs.Shifts.{complement, shifted, shifted_by_field}
 use Rattle.arm2_alu.proofs.RegisterLaws.{updated}
 use Rattle.arm2_alu.proofs.ValueLaws.{compared, summed, summed_with, borrowed}
 use Rattle.arm2_cpu.specs.Access.{writes_back}
@@ -30,10 +30,15 @@ shifted_register op2 s =
     if bits op2 11 4 == 0 then record { value = s.regs (bits op2 3 0); carry = s.c }
     else shifted_by_field (bits op2 6 5) (s.regs (bits op2 3 0)) (bits op2 11 7) s.c
 
--- the second operand
+-- a register, shifted by the number of bits in the low byte of another
+abbrev pub shifted_by_register : ℕ → Core → Shifted
+shifted_by_register op2 s = shifted (bits op2 6 5) (s.regs (bits op2 3 0)) (s.regs (bits op2 11 8) % 2 ^ 8) s.c
+
+-- the second operand: bit 4 of a register operand says which of the two shifts it is
 abbrev pub operand_in : Bool → ℕ → Core → Shifted
 operand_in imm op2 s =
     if imm then record { value = immediate_value op2; carry = if turns_of op2 == 0 then s.c else bit (immediate_value op2) 31 }
+    else if bit op2 4 then shifted_by_register op2 s
     else shifted_register op2 s
 
 -- the value of an operation without a sum
@@ -194,10 +199,15 @@ return_place x = x % 2 ^ 26 / 4 * 4
 abbrev pub is_plain_register : ℕ → Bool
 is_plain_register op2 = nat_lt op2 (2 ^ 12) && (not (bit op2 4) && nat_lt (bits op2 3 0) R15)
 
+-- the same, or shifted by another register below R15: bit 7 is clear there, since the word is a multiplication's where it is set
+abbrev pub is_plain_operand : ℕ → Bool
+is_plain_operand op2 =
+    nat_lt op2 (2 ^ 12) && (nat_lt (bits op2 3 0) R15 && (not (bit op2 4) || (not (bit op2 7) && nat_lt (bits op2 11 8) R15)))
+
 -- data processing: a test has S, and no field is R15
 abbrev pub is_plain_data : Bool → ℕ → Bool → ℕ → ℕ → ℕ → Bool
 is_plain_data imm op flags rn rd op2 =
-    (not (is_test op) || flags) && (nat_lt rn R15 && (nat_lt rd R15 && (imm || is_plain_register op2)))
+    (not (is_test op) || flags) && (nat_lt rn R15 && (nat_lt rd R15 && (imm || is_plain_operand op2)))
 
 -- LDR and STR: no field is R15, and the base that is written back is not loaded; not as in user mode
 abbrev pub is_plain_single : Bool → Bool → Bool → Bool → Bool → ℕ → ℕ → ℕ → Bool

@@ -1,7 +1,7 @@
 -- The instructions that routines are written with, as pieces of one word (VL86C010 (ARM2) data manual).
 use Rattle.std.specs.Prelude.{ℕ, ◌+◌, ◌*◌, ◌^◌, Bool, true, false}
 use Rattle.arm_isa.specs.declared.instruction.Instr.TheVariants.{Data, Mul, Single, Block, Swi}
-use Rattle.arm_isa.specs.Numbers.{AND, EOR, SUB, RSB, ADD, TST, TEQ, CMP, CMN, ORR, MOV, BIC, MVN, AL}
+use Rattle.arm_isa.specs.Numbers.{LSL, LSR, ASR, ROR, AND, EOR, SUB, RSB, ADD, TST, TEQ, CMP, CMN, ORR, MOV, BIC, MVN, AL}
 use Rattle.arm2_machine.specs.Swi.{swi_write, swi_new_line, swi_read}
 use Rattle.code_frag.specs.Language.{Piece, Do}
 
@@ -29,6 +29,26 @@ lsr rm by = record { imm = false; field = by * 2 ^ 7 + 1 * 2 ^ 5 + rm }
 -- a register shifted right with its sign, by 1 to 31 bits
 abbrev pub asr : ℕ → ℕ → Second
 asr rm by = record { imm = false; field = by * 2 ^ 7 + 2 * 2 ^ 5 + rm }
+
+-- a register shifted by the number of bits in the low byte of another, by the kind of the shift
+abbrev pub shift_by : ℕ → ℕ → ℕ → Second
+shift_by kind rm rs = record { imm = false; field = rs * 2 ^ 8 + kind * 2 ^ 5 + 1 * 2 ^ 4 + rm }
+
+-- Rm shifted left by Rs
+abbrev pub lsl_by : ℕ → ℕ → Second
+lsl_by rm rs = shift_by LSL rm rs
+
+-- Rm shifted right by Rs
+abbrev pub lsr_by : ℕ → ℕ → Second
+lsr_by rm rs = shift_by LSR rm rs
+
+-- Rm shifted right with its sign, by Rs
+abbrev pub asr_by : ℕ → ℕ → Second
+asr_by rm rs = shift_by ASR rm rs
+
+-- Rm rotated right by Rs
+abbrev pub ror_by : ℕ → ℕ → Second
+ror_by rm rs = shift_by ROR rm rs
 
 -- data processing without flags
 abbrev pub process : ℕ → ℕ → ℕ → Second → Piece
