@@ -19,11 +19,12 @@ use Rattle.code_frag.specs.Demands.{ToEnd, Out, Falls, Leaves, Post, on_falls, a
 use Rattle.code_frag.specs.Instructions.{num, mov, sub, cmp, write_byte}
 use Rattle.code_frag.specs.Language.{Piece, Skip, While, Call, Halt, ◌⨾◌, items, jump_to}
 use Rattle.code_frag.specs.Words.{FragState, IsFrag, words_of}
+use Rattle.code_frag.specs.Turns.{Less, Turn}
 use Rattle.code_frag.proofs.Branches.{stands_front, stands_back}
 use Rattle.code_frag.proofs.Loaded.{image_stands, ends_run, shows_end}
 use Rattle.code_frag.proofs.Sound.{sound, entered}
 use Rattle.code_frag.proofs.WordLaws.{label_address, length-words_of}
-use Rattle.code_frag.proofs.Rules.{Less, Turn, end_here, do_then, set_then, test_then, while_then, call_then, halt_then}
+use Rattle.code_frag.proofs.Rules.{end_here, do_then, set_then, test_then, while_then, call_then, halt_then}
 
 -- ---- the routine: R1 spaces
 

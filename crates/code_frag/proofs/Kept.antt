@@ -14,6 +14,7 @@ use Rattle.arm_core.specs.Effects.{operand_in, result_of, flagged_by, product_in
 use Rattle.arm_core.proofs.MemoryWords.{updated-other}
 use Rattle.code_frag.specs.Demands.{Out, Falls, Leaves, Post, on_falls, turns, rounds, Wp}
 use Rattle.code_frag.specs.Language.{Piece, Skip, Do, Seq, If, When, While, Repeat, Call, Leave, LeaveIf, LeaveTo, Halt}
+use Rattle.code_frag.specs.Unnamed.{writes, writes_in, stores, stores_in}
 use Rattle.code_frag.proofs.Monotone.{IsMono, instruction_with, mono}
 use Rattle.code_frag.proofs.Owed.{data_mem, product_mem, base_mem, call_mem}
 
@@ -78,15 +79,6 @@ module _ (Asks : ℕ → Core → Type 0) (Does : ℕ → Core → Out → Core 
 
 -- ---- registers that no instruction writes
 
-abbrev pub writes : ℕ → Instr → Bool
-writes k (Data cond imm op flags rn rd op2) = not (is_test op) && (k == rd)
-writes k (Mul cond acc flags rd rn rs rm) = k == rd
-writes k (Single cond reg pre up byte wb load rn rd offset) = (load && (k == rd)) || (writes_back pre wb && (k == rn))
-writes k (Block cond pre up psr wb load rn list) = (load && bit list k) || (wb && (k == rn))
-writes k (Branch cond link words) = false
-writes k (Swi cond number) = k == 0
-writes k (Undefined word) = false
-
 other_register : (s : Core) (rd x k : ℕ) → (k == rd) ≡ false → (put rd x s).regs k ≡ s.regs k
 other_register s rd x k apart = updated-other s.regs rd x k (eqb-false k rd apart)
 
@@ -147,21 +139,6 @@ instruction-keeps k (Branch cond link words) s apart = refl
 instruction-keeps k (Swi cond number) s apart = call_keeps (number == 0) (number == 3) k s _ _ apart
 instruction-keeps k (Undefined word) s apart = refl
 
--- the pieces without calls that write a register
-abbrev pub writes_in : ℕ → Piece → Bool
-writes_in k Skip = false
-writes_in k (Do i) = writes k i
-writes_in k (Seq a b) = writes_in k a || writes_in k b
-writes_in k (If c a b) = writes_in k a || writes_in k b
-writes_in k (When c a) = writes_in k a
-writes_in k (While p c b) = writes_in k p || writes_in k b
-writes_in k (Repeat b c) = writes_in k b
-writes_in k (Call e) = true
-writes_in k (Leave e) = false
-writes_in k (LeaveIf c e) = false
-writes_in k (LeaveTo rm) = false
-writes_in k Halt = false
-
 module _ (Asks : ℕ → Core → Type 0) (Does : ℕ → Core → Out → Core → Type 0) (k x : ℕ) where
   keeps_value : (p : Piece) → writes_in k p ≡ false → Keeps Asks Does (λ t. t.regs k ≡ x) p
   keeps_value Skip apart = tt
@@ -184,15 +161,6 @@ register-kept Asks Does p k apart Q s wp = kept Asks Does (λ t. t.regs k ≡ s.
 
 -- ---- memory that no instruction stores into
 
-abbrev pub stores : Instr → Bool
-stores (Data cond imm op flags rn rd op2) = false
-stores (Mul cond acc flags rd rn rs rm) = false
-stores (Single cond reg pre up byte wb load rn rd offset) = not load
-stores (Block cond pre up psr wb load rn list) = not load
-stores (Branch cond link words) = false
-stores (Swi cond number) = false
-stores (Undefined word) = false
-
 load_mem : (load byte : Bool) (rd a : ℕ) (s t : Core) → t.mem ≡ s.mem → not load ≡ false → (transfers load byte rd a s t).mem ≡ s.mem
 load_mem true byte rd a s t same loads = same
 load_mem false byte rd a s t same loads = absurd (true≢false loads)
@@ -212,21 +180,6 @@ instruction-memory (Block cond pre up psr wb load rn list) s loads = block_mem p
 instruction-memory (Branch cond link words) s loads = refl
 instruction-memory (Swi cond number) s loads = call_mem (number == 0) (number == 3) s _ _
 instruction-memory (Undefined word) s loads = refl
-
--- the pieces without calls that store
-abbrev pub stores_in : Piece → Bool
-stores_in Skip = false
-stores_in (Do i) = stores i
-stores_in (Seq a b) = stores_in a || stores_in b
-stores_in (If c a b) = stores_in a || stores_in b
-stores_in (When c a) = stores_in a
-stores_in (While p c b) = stores_in p || stores_in b
-stores_in (Repeat b c) = stores_in b
-stores_in (Call e) = true
-stores_in (Leave e) = false
-stores_in (LeaveIf c e) = false
-stores_in (LeaveTo rm) = false
-stores_in Halt = false
 
 module _ (Asks : ℕ → Core → Type 0) (Does : ℕ → Core → Out → Core → Type 0) (m : ℕ → ℕ) where
   keeps_memory : (p : Piece) → stores_in p ≡ false → Keeps Asks Does (λ t. t.mem ≡ m) p

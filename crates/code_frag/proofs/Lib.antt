@@ -11,5 +11,7 @@ pub mod Loaded
 mod Example
 pub mod JoinLaws
 mod ExampleFrame
+mod ExampleCopy
 pub mod Kept
 pub mod RegionLaws
+pub mod LanguageLaws

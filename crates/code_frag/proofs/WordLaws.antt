@@ -19,6 +19,8 @@ use Rattle.code_frag.specs.declared.item.Item.TheVariants.{Ins, Jump}
 use Rattle.code_frag.specs.Runs.{Stands}
 use Rattle.code_frag.specs.Words.{FragState, IsFrag, most_words, item_fits, place_fits, place_of, distance, item_word, words_from, words_of, ReachesFrom, Reaches}
 use Rattle.code_frag.proofs.FragLaws.{all_implies, place_fits-more}
+-- the words in a memory, and the addresses of labels: the laws are read with them
+pub use Rattle.code_frag.specs.Words.{HasWords, label_address}
 
 -- ---- distances
 
@@ -100,15 +102,6 @@ words-reach f base good few = record {
     fits p is = place_fits-more (length f.items) most_words few p is
 
 -- ---- the words of a fragment in a memory
-
--- words stand in a memory from an address on
-abbrev pub HasWords : List ℕ → (ℕ → ℕ) → ℕ → Type 0
-HasWords [] m a = Unit {0}
-HasWords (w ∷ ws) m a = (word m a ≡ w) × HasWords ws m (a + 4)
-
--- the address of a label
-abbrev pub label_address : List (Option ℕ) → ℕ → ℕ → ℕ
-label_address places base l = base + 4 * place_of places l
 
 stands_from : (is : List Item) (n : ℕ) (places : List (Option ℕ)) (code : ℕ → ℕ) (base at : ℕ) → list_all (item_fits n) is ≡ true → list_all (place_fits most_words) places ≡ true
     → at + length is ≤ most_words → base + 4 * most_words < 2 ^ 26 → HasWords (words_from is places at) code (base + 4 * at) → Stands is code (label_address places base) (base + 4 * at)

@@ -4,6 +4,10 @@ pub mod Regions
 pub mod Language
 pub mod Instructions
 pub mod Demands
+pub mod Turns
+pub mod Unnamed
 pub mod Rows
 pub mod Runs
+pub mod Within
 pub mod Words
+pub mod Laws

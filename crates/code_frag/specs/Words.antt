@@ -6,6 +6,7 @@ use Rattle.arm_isa.specs.declared.instruction.Instr.TheVariants.{Branch}
 use Rattle.arm_isa.specs.Fields.{offset_field}
 use Rattle.arm_isa.specs.Valid.{is_valid}
 use Rattle.arm_isa.specs.Words.{word_of}
+use Rattle.arm_core.specs.Core.{word}
 use Rattle.arm_core.specs.Made.{target_of}
 use Rattle.code_frag.specs.declared.item.Item.{Item}
 use Rattle.code_frag.specs.declared.item.Item.TheVariants.{Ins, Jump}
@@ -113,3 +114,14 @@ joined a b = record {
   items = a.items ++ map (shifted_item (length a.places)) b.items;
   places = a.places ++ map (shifted_place (length a.items)) b.places;
 }
+
+-- ---- in a memory
+
+-- words stand in a memory from an address on
+abbrev pub HasWords : List ℕ → (ℕ → ℕ) → ℕ → Type 0
+HasWords [] m a = Unit {0}
+HasWords (w ∷ ws) m a = (word m a ≡ w) × HasWords ws m (a + 4)
+
+-- the address of a label, where the words stand from a base on
+abbrev pub label_address : List (Option ℕ) → ℕ → ℕ → ℕ
+label_address places base l = base + 4 * place_of places l

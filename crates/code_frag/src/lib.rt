@@ -6,7 +6,11 @@
 mod entries;
 mod frag;
 mod item;
+mod laws;
 
 pub use entries::{Entry, Lib};
 pub use frag::Frag;
 pub use item::{Item, Label};
+pub use laws::{
+    Demand, LoopInvariant, fragments_stand, language_is_sound, loops_end, regions_are_in_order,
+};
