@@ -12,6 +12,7 @@ mod Example
 pub mod JoinLaws
 mod ExampleFrame
 mod ExampleCopy
+mod ExampleDivision
 pub mod Kept
 pub mod RegionLaws
 pub mod LanguageLaws
