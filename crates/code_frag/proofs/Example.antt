@@ -134,11 +134,11 @@ module _ {Asks : ℕ → Core → Type 0} {Does : ℕ → Core → Out → Core 
 
 -- ---- a program that calls it, and ends
 
-abbrev caller : ℕ → Piece
+abbrev pub caller : ℕ → Piece
 caller n = mov 1 (num n) ⨾ Call 0 ⨾ mov 0 (num 0) ⨾ Halt ⨾ Skip
 
 -- the program's words: the caller's four, and then the entry, whose label is 0
-abbrev program : ℕ → FragState
+abbrev pub program : ℕ → FragState
 program n = record { items = items (caller n) ++ (items spaces ++ jump_to 14 ∷ []); places = Some 4 ∷ [] }
 
 -- the contracts of its entries

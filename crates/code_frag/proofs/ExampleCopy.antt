@@ -263,13 +263,13 @@ module _ {Asks : ℕ → Core → Type 0} {Does : ℕ → Core → Out → Core 
 
 -- ---- a program that stores two words, calls it, and writes the copies
 
-abbrev caller : ℕ → ℕ → Piece
+abbrev pub caller : ℕ → ℕ → Piece
 caller x y =
     mov 13 (num 0x8b0) ⨾ mov 0 (num 0x890) ⨾ mov 1 (num 0x8a0) ⨾ mov 2 (num 2) ⨾ mov 3 (num x) ⨾ str 3 0 0 ⨾ mov 3 (num y) ⨾ str 3 0 4 ⨾ Call 0
     ⨾ ldr 0 1 0 ⨾ write_byte ⨾ ldr 0 1 4 ⨾ write_byte ⨾ mov 0 (num 0) ⨾ Halt ⨾ Skip
 
 -- the program's words: the caller's fifteen, and then the entry, whose label is 0
-abbrev program : ℕ → ℕ → FragState
+abbrev pub program : ℕ → ℕ → FragState
 program x y = record { items = items (caller x y) ++ (items copy ++ jump_to 14 ∷ []); places = Some 15 ∷ [] }
 
 -- the contracts of its entries

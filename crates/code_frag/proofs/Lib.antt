@@ -8,11 +8,11 @@ pub mod Rules
 pub mod FragLaws
 pub mod WordLaws
 pub mod Loaded
-mod Example
+pub mod Example
 pub mod JoinLaws
-mod ExampleFrame
-mod ExampleCopy
-mod ExampleDivision
+pub mod ExampleFrame
+pub mod ExampleCopy
+pub mod ExampleDivision
 pub mod Kept
 pub mod RegionLaws
 pub mod LanguageLaws

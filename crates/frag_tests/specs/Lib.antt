@@ -1,0 +1,2 @@
+-- What the programs of this crate do on the board.
+pub mod Shows
