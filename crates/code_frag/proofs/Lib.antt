@@ -13,6 +13,7 @@ pub mod JoinLaws
 pub mod ExampleFrame
 pub mod ExampleCopy
 pub mod ExampleDivision
+mod ExampleShift
 pub mod Kept
 pub mod RegionLaws
 pub mod LanguageLaws

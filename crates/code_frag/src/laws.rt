@@ -6,6 +6,8 @@ ghost use Rattle.code_frag.specs.Demands.{Out};
 ghost use Rattle.code_frag.specs.Laws.{LanguageIsSound, LoopsEnd, FragmentsStand};
 ghost use Rattle.code_frag.specs.Regions.{RegionsInOrder};
 
+use std::marker::Brand;
+
 /// The contracts of the entries that may be called, what each asks and what it leaves, and what is asked at the end of a piece.
 pub trait Demand {
     ghost asks: { ℕ → Core → Type 0 };
@@ -15,9 +17,23 @@ pub trait Demand {
     ghost post: { Out → Core → Type 0 };
 }
 
+/// A caller of a law picks its own demand in the proof of the call.
+impl Demand for Brand {
+    ghost asks = { λ e s. Unit {0} };
+
+    ghost does = { λ e s o t. Unit {0} };
+
+    ghost post = { λ o t. Unit {0} };
+}
+
 /// An invariant of a loop, with a number that falls at each turn.
 pub trait LoopInvariant {
     ghost holds: { ℕ → Core → Type 0 };
+}
+
+/// A caller of the law picks its own invariant in the proof of the call.
+impl LoopInvariant for Brand {
+    ghost holds = { λ n s. Unit {0} };
 }
 
 /// The law of the language: wherever the items of a well-formed piece stand in a memory, the board comes from each core for

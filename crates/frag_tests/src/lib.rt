@@ -7,6 +7,7 @@ mod division;
 #[cfg(test)]
 mod fragments;
 mod instructions;
+mod laws;
 mod numbers;
 #[cfg(test)]
 mod programs;
@@ -14,4 +15,5 @@ mod rows;
 
 pub use copying::copying_words;
 pub use division::division_words;
+pub use laws::register_moves;
 pub use rows::rows_words;
