@@ -7,11 +7,11 @@ use Rattle.code_frag.specs.Demands.{Out, Post, on_falls, at_return, Owes}
 use Rattle.code_frag.specs.Language.{Piece, Seq, While, Repeat, size, items, jump_to, is_well_formed, is_flat, calls}
 use Rattle.code_frag.specs.Runs.{Stands, IsCode, SameCode, EndsAt, Meets, MeetEach}
 use Rattle.code_frag.specs.Words.{FragState, IsFrag, most_words, words_of, joined, HasWords, label_address}
-use Rattle.code_frag.specs.Within.{IsOwn, EndsWithin, MeetsWithin, MeetEachWithin}
+use Rattle.code_frag.specs.Within.{IsOwn, words_at, EndsWithin, MeetsWithin, MeetEachWithin}
 use Rattle.code_frag.specs.Turns.{Round, Turn}
 use Rattle.code_frag.specs.Unnamed.{writes_in, stores_in}
 
--- the board is a core at the first word of a piece, whose items stand there, and the entries that it calls meet their contracts
+-- the board is a core at the first word of a piece, whose items stand there
 pub record AtPiece (code entry : ℕ → ℕ) (p : Piece) (place : ℕ) (s : Core) (m : Machine) : Type 0 where
   pub lies : IsCode place (size p)
   pub stands : Stands (items p) code entry place
@@ -31,6 +31,9 @@ pub record LanguageIsSound (Asks : ℕ → Core → Type 0) (Does : ℕ → Core
   -- and each of these steps is made at an address of any set that has the piece's words, and the steps of the entries that it calls
   pub own_words : (own : ℕ → Bool) (p : Piece) (code entry : ℕ → ℕ) (place : ℕ) (s : Core) (m : Machine) → is_well_formed p ≡ true → MeetEachWithin code entry own Asks Does (calls p)
       → IsOwn own place (size p) → AtPiece code entry p place s m → Owes Asks Does p Q s → EndsWithin code entry own (is_flat p) Q place (place + 4 * size p) s m
+  -- so a piece that calls no entry is made in its own words alone, until it leaves them or comes to its end
+  pub alone : (p : Piece) (code entry : ℕ → ℕ) (place : ℕ) (s : Core) (m : Machine) → is_well_formed p ≡ true → calls p ≡ [] → AtPiece code entry p place s m → Owes Asks Does p Q s
+      → EndsWithin code entry (words_at place (size p)) (is_flat p) Q place (place + 4 * size p) s m
   -- an entry whose body owes its contract meets it
   pub entries : (e : ℕ) (body : Piece) (code entry : ℕ → ℕ) → is_well_formed body ≡ true → MeetEach code entry Asks Does (calls body) → EntryStands code entry e body
       → ((s : Core) → IsGood s → Asks e s → Owes Asks Does body (at_return (Does e s) s) s) → Meets code entry Asks Does e
