@@ -1,6 +1,6 @@
 //! Boards whose program calls one entry of the library: the image begins with a branch over the texts of errors, and then come
 //! the library and its caller.
-ghost use Rattle.std.specs.Prelude.{◌≡◌, ◌+◌, ◌≤◌, ◌<◌, length, OnOk};
+ghost use Rattle.std.specs.Prelude.{◌≡◌, ◌+◌, ◌*◌, ◌≤◌, ◌<◌, length, OnOk};
 
 use arm_isa::Instr;
 use arm_isa::numbers::{AL, CMP, MOV, NE, ORR};
@@ -22,6 +22,28 @@ pub struct Call {
     /// The column that is stored before.
     pub column: u32,
 }
+
+/// What an entry on open loops and GOSUBs is called with, and what is shown of what it left: R0, the error in R1, where there is none
+/// and it is asked for R2, and words of memory.
+#[derive(Clone, Copy)]
+pub struct EntryCall {
+    /// Its number.
+    pub entry: u16,
+    /// R1 to R4.
+    pub registers: [u32; 4],
+    /// Whether R2 is shown.
+    pub shows_code: bool,
+}
+
+/// A word of memory.
+#[derive(Clone, Copy)]
+pub struct Word {
+    pub at: u32,
+    pub value: u32,
+}
+
+/// What R0 is before an entry on open loops and GOSUBs is called, and after it.
+pub const KEPT: u32 = 0x1234_5678;
 
 /// The words before the code: the branch, two that nothing leads to, and the texts.
 const WORDS_BEFORE: u32 = 3 + 134;
@@ -119,6 +141,54 @@ static SHOW_NUMBER: [Item; 15] = [
     swi!(SWI_END),
 ];
 
+/// R5 is stored at R6.
+static STORE_WORD: [Item; 1] = [Item::Ins(Instr::Single {
+    cond: AL,
+    reg: false,
+    pre: true,
+    up: true,
+    byte: false,
+    wb: false,
+    load: false,
+    rn: 6,
+    rd: 5,
+    offset: 0,
+})];
+
+/// The word at R6 comes into R0.
+static LOAD_WORD: [Item; 1] = [Item::Ins(Instr::Single {
+    cond: AL,
+    reg: false,
+    pre: true,
+    up: true,
+    byte: false,
+    wb: false,
+    load: true,
+    rn: 6,
+    rd: 0,
+    offset: 0,
+})];
+
+/// The four bytes of R0 are written, the low one first.
+static SHOW_WORD: [Item; 7] = [
+    swi!(SWI_WRITE),
+    data!(MOV, 0, 0, false, 8 * 0x80 + 0x20),
+    swi!(SWI_WRITE),
+    data!(MOV, 0, 0, false, 8 * 0x80 + 0x20),
+    swi!(SWI_WRITE),
+    data!(MOV, 0, 0, false, 8 * 0x80 + 0x20),
+    swi!(SWI_WRITE),
+];
+
+/// The low byte of R1 is written.
+static SHOW_ERROR: [Item; 2] = [data!(MOV, 0, 0, false, 1), swi!(SWI_WRITE)];
+
+/// R2 comes into R0.
+static TAKE_CODE: [Item; 1] = [data!(MOV, 0, 0, false, 2)];
+
+/// The end of the run.
+static END: [Item; 2] = [data!(MOV, 0, 0, true, 0), swi!(SWI_END)];
+
 /// Rd takes a number, by its four bytes.
 fn set(frag: &mut Frag, rd: u8, value: u32) -> Result<(), NoMemory>
     requires { rd < 16 }
@@ -136,10 +206,10 @@ fn set(frag: &mut Frag, rd: u8, value: u32) -> Result<(), NoMemory>
 
 /// The label of an entry.
 fn label_of(lib: &Lib, entry: u16) -> Label
-    ensures { result.number < 13 }
+    ensures { result.number < 16 }
 {
     for e in &lib.entries {
-        if e.id == entry && e.at.number < 13 {
+        if e.id == entry && e.at.number < 16 {
             return e.at;
         }
     }
@@ -171,6 +241,101 @@ fn add_show(frag: &mut Frag, entry: u16) -> Result<(), NoMemory>
     } else {
         frag.emit_all(&SHOW_COLUMN)
     }
+}
+
+/// Adds what stores words.
+fn add_stores(frag: &mut Frag, stored: &[Word]) -> Result<(), NoMemory>
+    ensures places { OnOk result (frag.new.places ≡ frag.old.places) }
+    ensures few { OnOk result (length frag.new.items ≡ length frag.old.items + 9 * length stored.now) }
+{
+    for word in stored {
+        set(frag, 5, word.value)?;
+        set(frag, 6, word.at)?;
+        frag.emit_all(&STORE_WORD)?;
+    }
+    Ok(())
+}
+
+/// Adds what calls an entry on open loops and GOSUBs.
+fn add_entry_call(
+    frag: &mut Frag,
+    call: EntryCall,
+    stored: &[Word],
+    to: Label,
+) -> Result<(), NoMemory>
+    requires { to.number < length frag.old.places }
+    ensures places { OnOk result (frag.new.places ≡ frag.old.places) }
+    ensures few { OnOk result (length frag.new.items ≡ length frag.old.items + 9 * length stored.now + 29) }
+{
+    let [r1, r2, r3, r4] = call.registers;
+    add_stores(frag, stored)?;
+    set(frag, 11, 0x90_0000)?;
+    set(frag, 13, 0xff_f000)?;
+    set(frag, 0, KEPT)?;
+    set(frag, 1, r1)?;
+    set(frag, 2, r2)?;
+    set(frag, 3, r3)?;
+    set(frag, 4, r4)?;
+    frag.branch(AL, true, to)
+}
+
+/// Adds what shows words.
+fn add_loads(frag: &mut Frag, shown: &[Word]) -> Result<(), NoMemory>
+    ensures places { OnOk result (frag.new.places ≡ frag.old.places) }
+    ensures few { OnOk result (length frag.new.items ≡ length frag.old.items + 12 * length shown.now) }
+{
+    for word in shown {
+        set(frag, 6, word.at)?;
+        frag.emit_all(&LOAD_WORD)?;
+        frag.emit_all(&SHOW_WORD)?;
+    }
+    Ok(())
+}
+
+/// Adds what shows R2, where it is asked for.
+fn add_code_show(frag: &mut Frag, shows_code: bool) -> Result<(), NoMemory>
+    ensures places { OnOk result (frag.new.places ≡ frag.old.places) }
+    ensures few { OnOk result (length frag.new.items ≤ length frag.old.items + 8) }
+{
+    if shows_code {
+        frag.emit_all(&TAKE_CODE)?;
+        frag.emit_all(&SHOW_WORD)
+    } else {
+        Ok(())
+    }
+}
+
+/// Adds what shows what an entry on open loops and GOSUBs left, and the end of the run.
+fn add_entry_show(frag: &mut Frag, shows_code: bool, shown: &[Word]) -> Result<(), NoMemory>
+    ensures places { OnOk result (frag.new.places ≡ frag.old.places) }
+    ensures few { OnOk result (length frag.new.items ≤ length frag.old.items + 12 * length shown.now + 19) }
+{
+    frag.emit_all(&SHOW_WORD)?;
+    frag.emit_all(&SHOW_ERROR)?;
+    add_code_show(frag, shows_code)?;
+    add_loads(frag, shown)?;
+    frag.emit_all(&END)
+}
+
+/// The words of the library, and then those of a program that calls one of its entries on open loops and GOSUBs; and the number of
+/// the library's.
+fn entry_code(
+    alloc: Global,
+    call: EntryCall,
+    stored: &[Word],
+    shown: &[Word],
+) -> Result<(Vec<u32>, usize), NoMemory>
+    requires few_stored { length stored.now ≤ 100 }
+    requires few_shown { length shown.now ≤ 100 }
+{
+    let base = IMAGE_START + 4 * WORDS_BEFORE;
+    let mut lib = routines(alloc)?;
+    let before = lib.frag.resolve(alloc, base)?.len();
+    let to = label_of(&lib, call.entry);
+    add_entry_call(&mut lib.frag, call, stored, to)?;
+    add_entry_show(&mut lib.frag, call.shows_code, shown)?;
+    let words = lib.frag.resolve(alloc, base)?;
+    Ok((words, before))
 }
 
 /// The words of the library, and then those of a program that calls one of its entries; and the number of the library's.
@@ -211,14 +376,19 @@ fn words_before(alloc: Global, words: usize) -> Result<Vec<u32>, NoMemory>
     Ok(image)
 }
 
-/// Whether the board writes these bytes where an entry is called, and ends so.
-pub fn shows(alloc: Global, call: Call, bytes: &[u8], report: Report) -> Result<bool, NoMemory> {
-    let (code, before) = code(alloc, call)?;
+/// Whether the board writes these bytes where it runs code, whose first words come before the program, and ends so.
+fn writes(
+    alloc: Global,
+    code: &[u32],
+    before: usize,
+    bytes: &[u8],
+    report: Report,
+) -> Result<bool, NoMemory> {
     if before > 2000 {
         return Ok(false);
     }
     let mut words = words_before(alloc, before)?;
-    words.extend_from_slice(&code)?;
+    words.extend_from_slice(code)?;
     if words.len() > IMAGE_WORDS as usize {
         return Ok(false);
     }
@@ -226,4 +396,36 @@ pub fn shows(alloc: Global, call: Call, bytes: &[u8], report: Report) -> Result<
     let mut out = MemSink::new(alloc, 1000)?;
     let end = board.run(100_000, &mut out);
     Ok(end == Ok(RunEnd::Over(report)) && out.bytes() == bytes)
+}
+
+/// Whether the board writes these bytes where an entry is called, and ends so.
+pub fn shows(alloc: Global, call: Call, bytes: &[u8], report: Report) -> Result<bool, NoMemory> {
+    let (code, before) = code(alloc, call)?;
+    writes(alloc, &code, before, bytes, report)
+}
+
+/// Whether an entry on open loops and GOSUBs, called where these words are stored, leaves R0 as it was, this error, this code where
+/// it is shown, and these words.
+pub fn leaves(
+    alloc: Global,
+    call: EntryCall,
+    stored: &[Word],
+    error: u8,
+    code_at: u32,
+    words: &[Word],
+) -> Result<bool, NoMemory> {
+    if stored.len() > 100 || words.len() > 100 {
+        return Ok(false);
+    }
+    let (code, before) = entry_code(alloc, call, stored, words)?;
+    let mut bytes = Vec::new(alloc);
+    bytes.extend_from_slice(&KEPT.to_le_bytes())?;
+    bytes.push(error)?;
+    if call.shows_code {
+        bytes.extend_from_slice(&code_at.to_le_bytes())?;
+    }
+    for word in words {
+        bytes.extend_from_slice(&word.value.to_le_bytes())?;
+    }
+    writes(alloc, &code, before, &bytes, Report::Done)
 }

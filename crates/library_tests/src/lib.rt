@@ -7,3 +7,5 @@ mod boards;
 mod entries;
 #[cfg(test)]
 mod errors;
+#[cfg(test)]
+mod loops;

@@ -1,17 +1,22 @@
 -- The proofs of the routines.
 mod ClosingTextProof
+mod ClosingWordProof
 mod DigitLaws
 mod DigitParts
 mod DivisionLaws
 mod DivisionProof
+mod EntryParts
+mod EntrySearch
 mod ErrorSearch
 mod Leading
 pub mod LibraryLaws
 mod LineEndProof
 mod NumberParts
 mod NumberProof
+mod OpeningProof
 mod ProductProof
 mod QuotientProof
+pub mod RangeLaws
 mod RunProof
 mod SignedLaws
 mod SignedParts
@@ -20,4 +25,6 @@ mod StringOutProof
 mod TextParts
 mod ToFieldProof
 mod ToTabProof
+mod TurningLaws
+mod TurningProof
 mod WritingParts

@@ -14,9 +14,10 @@ use Rattle.code_frag.proofs.JoinLaws.{stands_shifted, stands-joined, address-joi
 use Rattle.code_frag.proofs.Sound.{entered}
 use Rattle.code_frag.proofs.WordLaws.{label_address}
 use Rattle.runtime_lib.specs.Digits.{decimal_number, hexadecimal_number}
-use Rattle.runtime_lib.specs.Entries.{Routine, Product, Quotient, Modulus, DecimalNumber, HexadecimalNumber, SomeSpaces, LineEnd, StringOut, ClosingText, ToField, ToTab, Run, Division, label_of, routine_of, does_at, LibraryAsks, LibraryDoes}
-use Rattle.runtime_lib.specs.Library.{piece_of, numbers, writers, routines, most_library_words, with_routine, with_routines, no_routines, library, library_labels, labels_from, LibraryStands, LibraryMeets, AsksAfter, DoesAfter}
+use Rattle.runtime_lib.specs.Entries.{Routine, Product, Quotient, Modulus, DecimalNumber, HexadecimalNumber, SomeSpaces, LineEnd, StringOut, ClosingText, ToField, ToTab, Run, Division, Opening, ClosingWord, Turning, label_of, routine_of, does_at, LibraryAsks, LibraryDoes}
+use Rattle.runtime_lib.specs.Library.{piece_of, numbers, writers, loops, routines, most_library_words, with_routine, with_routines, no_routines, library, library_labels, labels_from, LibraryStands, LibraryMeets, AsksAfter, DoesAfter}
 use Rattle.runtime_lib.specs.Routines.{routines_count, routine_items}
+use Rattle.runtime_lib.specs.Loops.{opening, closing_word, turning}
 use Rattle.runtime_lib.specs.Numbers.{product, quotient, modulus, division}
 use Rattle.runtime_lib.specs.Writing.{some_spaces, line_end, string_out, closing_text, to_field, to_tab, run}
 use Rattle.runtime_lib.proofs.LineEndProof.{line_end_owes}
@@ -29,6 +30,9 @@ use Rattle.runtime_lib.proofs.RunProof.{run_owes}
 use Rattle.runtime_lib.proofs.NumberProof.{decimal_owes, hexadecimal_owes}
 use Rattle.runtime_lib.proofs.DivisionProof.{division_owes}
 use Rattle.runtime_lib.proofs.ProductProof.{product_owes}
+use Rattle.runtime_lib.proofs.OpeningProof.{opening_owes}
+use Rattle.runtime_lib.proofs.ClosingWordProof.{closing_word_owes}
+use Rattle.runtime_lib.proofs.TurningProof.{turning_owes}
 use Rattle.runtime_lib.proofs.QuotientProof.{quotient_owes, modulus_owes}
 
 -- ---- where each routine stands
@@ -77,7 +81,7 @@ module _ (code entry : ℕ → ℕ) (base : ℕ) where
 
   library_placed : IsCode base (length library.items) → Stands library.items code entry base → ((label : ℕ) → label < routines_count → entry label ≡ base + 4 * place_of library.places label) → AreAllPlaced code entry routines
   unfolding library
-  library_placed lies stands at = all_placed routines no_routines lies stands (at 0 (omega arith), (at 1 (omega arith), (at 2 (omega arith), (at 3 (omega arith), (at 4 (omega arith), (at 5 (omega arith), (at 6 (omega arith), (at 7 (omega arith), (at 8 (omega arith), (at 9 (omega arith), (at 10 (omega arith), (at 11 (omega arith), (at 12 (omega arith), tt)))))))))))))
+  library_placed lies stands at = all_placed routines no_routines lies stands (at 0 (omega arith), (at 1 (omega arith), (at 2 (omega arith), (at 3 (omega arith), (at 4 (omega arith), (at 5 (omega arith), (at 6 (omega arith), (at 7 (omega arith), (at 8 (omega arith), (at 9 (omega arith), (at 10 (omega arith), (at 11 (omega arith), (at 12 (omega arith), (at 13 (omega arith), (at 14 (omega arith), (at 15 (omega arith), tt))))))))))))))))
 
 -- ---- each routine meets its contract
 
@@ -100,6 +104,15 @@ module _ (code entry : ℕ → ℕ) where
 
   string_out_meets : Placed code entry StringOut → MeetsContract 7
   string_out_meets p = entered code entry LibraryAsks LibraryDoes 7 string_out refl tt p.lies p.stands (λ s good asked. (string_out_owes s good asked.0 asked.1).by)
+
+  opening_meets : Placed code entry Opening → MeetsContract 13
+  opening_meets p = entered code entry LibraryAsks LibraryDoes 13 opening refl tt p.lies p.stands (λ s good asked. (opening_owes s good asked).by)
+
+  closing_word_meets : Placed code entry ClosingWord → MeetsContract 14
+  closing_word_meets p = entered code entry LibraryAsks LibraryDoes 14 closing_word refl tt p.lies p.stands (λ s good asked. (closing_word_owes s good asked).by)
+
+  turning_meets : Placed code entry Turning → MeetsContract 15
+  turning_meets p = entered code entry LibraryAsks LibraryDoes 15 turning refl tt p.lies p.stands (λ s good asked. (turning_owes s good asked).by)
 
   -- those that write spaces
   module _ (runs : MeetsContract 11) where
@@ -144,10 +157,13 @@ module _ (code entry : ℕ → ℕ) where
       let p10 = p9.1 in
       let p11 = p10.1 in
       let p12 = p11.1 in
+      let p13 = p12.1 in
+      let p14 = p13.1 in
+      let p15 = p14.1 in
       let runs = run_meets p11.0 in
       let divides = division_meets p12.0 in
       let decimal = decimal_number_meets runs p3.0 in
-      (product_meets p0.0, (quotient_meets divides p1.0, (modulus_meets divides p2.0, (decimal, (hexadecimal_number_meets runs p4.0, (some_spaces_meets runs p5.0, (line_end_meets p6.0, (string_out_meets p7.0, (closing_text_meets decimal p8.0, (to_field_meets runs p9.0, (to_tab_meets runs p10.0, (runs, (divides, tt)))))))))))))
+      (product_meets p0.0, (quotient_meets divides p1.0, (modulus_meets divides p2.0, (decimal, (hexadecimal_number_meets runs p4.0, (some_spaces_meets runs p5.0, (line_end_meets p6.0, (string_out_meets p7.0, (closing_text_meets decimal p8.0, (to_field_meets runs p9.0, (to_tab_meets runs p10.0, (runs, (divides, (opening_meets p13.0, (closing_word_meets p14.0, (turning_meets p15.0, tt))))))))))))))))
 
 -- ---- under other labels
 
@@ -167,6 +183,9 @@ leads_to_none (Some ToField) s k t d = let f = d.falls in cc
 leads_to_none (Some ToTab) s k t d = let f = d.falls in cc
 leads_to_none (Some Run) s k t d = let f = d.falls in cc
 leads_to_none (Some Division) s k t d = let f = d.falls in cc
+leads_to_none (Some Opening) s k t d = let f = d.comes_back.falls in cc
+leads_to_none (Some ClosingWord) s k t d = let f = d.comes_back.falls in cc
+leads_to_none (Some Turning) s k t d = let f = d.comes_back.falls in cc
 
 -- one of some labels
 one_meets : (code entry : ℕ → ℕ) (n first label : ℕ) → label < n → MeetEach code entry LibraryAsks LibraryDoes (labels_from n first) → Meets code entry LibraryAsks LibraryDoes (first + label)
@@ -206,7 +225,7 @@ placed_there (None ∷ ps) label all within = absurd (false≢true all)
 placed_there (Some p ∷ ps) zero all within = refl
 placed_there (Some p ∷ ps) (suc label) all within = placed_there ps label all (omega (arith, within))
 
-pub library-made : with_routines writers (with_routines numbers no_routines) ≡ library
+pub library-made : with_routines loops (with_routines writers (with_routines numbers no_routines)) ≡ library
 unfolding library
 library-made = refl
 

@@ -7,7 +7,8 @@ use Rattle.code_frag.specs.Language.{Piece}
 use Rattle.code_frag.specs.Runs.{Stands, IsCode, Meets}
 use Rattle.code_frag.specs.Words.{FragState, place_of}
 use Rattle.runtime_lib.specs.Digits.{decimal_number, hexadecimal_number}
-use Rattle.runtime_lib.specs.Entries.{Routine, Product, Quotient, Modulus, DecimalNumber, HexadecimalNumber, SomeSpaces, LineEnd, StringOut, ClosingText, ToField, ToTab, Run, Division, label_of, LibraryAsks, LibraryDoes}
+use Rattle.runtime_lib.specs.Entries.{Routine, Product, Quotient, Modulus, DecimalNumber, HexadecimalNumber, SomeSpaces, LineEnd, StringOut, ClosingText, ToField, ToTab, Run, Division, Opening, ClosingWord, Turning, label_of, LibraryAsks, LibraryDoes}
+use Rattle.runtime_lib.specs.Loops.{opening, closing_word, turning}
 use Rattle.runtime_lib.specs.Numbers.{product, quotient, modulus, division}
 use Rattle.runtime_lib.specs.Routines.{routines_count, with_piece}
 use Rattle.runtime_lib.specs.Writing.{some_spaces, line_end, string_out, closing_text, to_field, to_tab, run}
@@ -27,16 +28,23 @@ piece_of ToField = to_field
 piece_of ToTab = to_tab
 piece_of Run = run
 piece_of Division = division
+piece_of Opening = opening
+piece_of ClosingWord = closing_word
+piece_of Turning = turning
 
--- the routines in the order of their labels: those on numbers, those that write, and those that they call
+-- the routines in the order of their labels: those on numbers, those that write, with those that they call, and those on open loops
+-- and GOSUBs
 abbrev pub numbers : List Routine
 numbers = Product ∷ Quotient ∷ Modulus ∷ DecimalNumber ∷ HexadecimalNumber ∷ []
 
 abbrev pub writers : List Routine
 writers = SomeSpaces ∷ LineEnd ∷ StringOut ∷ ClosingText ∷ ToField ∷ ToTab ∷ Run ∷ Division ∷ []
 
+abbrev pub loops : List Routine
+loops = Opening ∷ ClosingWord ∷ Turning ∷ []
+
 abbrev pub routines : List Routine
-routines = numbers ++ writers
+routines = numbers ++ (writers ++ loops)
 
 -- a fragment with a routine at its end, where the routine's label has its place
 abbrev pub with_routine : Routine → FragState → FragState
@@ -67,7 +75,7 @@ entry_of id r = record { id = id; at = record { number = label_of r } }
 abbrev pub library_entries : List Entry
 library_entries =
     entry_of 1 Product ∷ entry_of 2 Quotient ∷ entry_of 3 Modulus ∷ entry_of 4 DecimalNumber ∷ entry_of 5 HexadecimalNumber ∷ entry_of 6 SomeSpaces ∷ entry_of 7 LineEnd
-    ∷ entry_of 8 StringOut ∷ entry_of 9 ClosingText ∷ entry_of 17 ToField ∷ entry_of 18 ToTab ∷ []
+    ∷ entry_of 8 StringOut ∷ entry_of 9 ClosingText ∷ entry_of 10 Opening ∷ entry_of 11 ClosingWord ∷ entry_of 17 ToField ∷ entry_of 18 ToTab ∷ entry_of 19 Turning ∷ []
 
 -- ---- the library in a memory
 

@@ -27,8 +27,17 @@ pub const STRING_OUT: u16 = 8;
 /// The closing text, and the end of the run.
 pub const CLOSING_TEXT: u16 = 9;
 
+/// FOR, REPEAT, WHILE and GOSUB.
+pub const OPENING: u16 = 10;
+
+/// UNTIL, ENDWHILE and RETURN.
+pub const CLOSING_WORD: u16 = 11;
+
 /// A comma.
 pub const TO_FIELD: u16 = 17;
 
 /// TAB.
 pub const TO_TAB: u16 = 18;
+
+/// NEXT.
+pub const TURNING: u16 = 19;

@@ -7,6 +7,12 @@ pub const BASE: u8 = 11;
 /// Where the column stands, from the residents on, in bytes.
 pub const COLUMN: u16 = 108;
 
+/// Where the number of open entries stands, likewise.
+pub const COUNT: u16 = 112;
+
+/// Where the depth of the call that runs stands, likewise.
+pub const DEPTH: u16 = 116;
+
 /// The field of the immediate 2^31.
 pub const TOP_BIT: u16 = 0x102;
 
@@ -143,6 +149,24 @@ macro_rules! ldr {
     };
 }
 
+/// Rd takes the word at Rn - offset.
+macro_rules! ldr_below {
+    ($rd:expr, $rn:expr, $offset:expr) => {
+        Item::Ins(Instr::Single {
+            cond: AL,
+            reg: false,
+            pre: true,
+            up: false,
+            byte: false,
+            wb: false,
+            load: true,
+            rn: $rn,
+            rd: $rd,
+            offset: $offset,
+        })
+    };
+}
+
 /// The word at Rn + offset takes Rd.
 macro_rules! store {
     ($rd:expr, $rn:expr, $offset:expr) => {
@@ -204,6 +228,7 @@ pub(crate) use cmp;
 pub(crate) use data;
 pub(crate) use data_if;
 pub(crate) use ldr;
+pub(crate) use ldr_below;
 pub(crate) use ldrb;
 pub(crate) use mov;
 pub(crate) use mul;

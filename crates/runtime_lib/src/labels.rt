@@ -39,3 +39,12 @@ pub const RUN: Label = Label { number: 11 };
 
 /// The division of words, for the other routines.
 pub const DIVISION: Label = Label { number: 12 };
+
+/// FOR, REPEAT, WHILE and GOSUB.
+pub const OPENING: Label = Label { number: 13 };
+
+/// UNTIL, ENDWHILE and RETURN.
+pub const CLOSING_WORD: Label = Label { number: 14 };
+
+/// NEXT.
+pub const TURNING: Label = Label { number: 15 };

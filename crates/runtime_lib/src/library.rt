@@ -1,16 +1,17 @@
 //! The library: all routines, and where its entries are.
 ghost use Rattle.std.specs.Prelude.{◌≡◌, ◌≤◌, [], ◌∷◌, length, replicate, None, OnOk, IfOk};
 ghost use Rattle.code_frag.specs.Words.{IsOpen, AllPlaced};
-ghost use Rattle.runtime_lib.specs.Entries.{Product, Quotient, Modulus, DecimalNumber, HexadecimalNumber, SomeSpaces, LineEnd, StringOut, ClosingText, ToField, ToTab, Run, Division, label_of};
-ghost use Rattle.runtime_lib.specs.Library.{with_routine, with_routines, numbers, writers, no_routines, library, library_entries, most_library_words};
+ghost use Rattle.runtime_lib.specs.Entries.{Product, Quotient, Modulus, DecimalNumber, HexadecimalNumber, SomeSpaces, LineEnd, StringOut, ClosingText, ToField, ToTab, Run, Division, Opening, ClosingWord, Turning, label_of};
+ghost use Rattle.runtime_lib.specs.Library.{with_routine, with_routines, numbers, writers, loops, no_routines, library, library_entries, most_library_words};
 ghost use Rattle.runtime_lib.specs.Routines.{routines_count};
 
 use crate::digits::{emit_decimal_number, emit_hexadecimal_number};
 use crate::ids;
 use crate::labels::{
-    CLOSING_TEXT, DECIMAL_NUMBER, DIVISION, HEXADECIMAL_NUMBER, LINE_END, MODULUS, PRODUCT,
-    QUOTIENT, RUN, SOME_SPACES, STRING_OUT, TO_FIELD, TO_TAB,
+    CLOSING_TEXT, CLOSING_WORD, DECIMAL_NUMBER, DIVISION, HEXADECIMAL_NUMBER, LINE_END, MODULUS,
+    OPENING, PRODUCT, QUOTIENT, RUN, SOME_SPACES, STRING_OUT, TO_FIELD, TO_TAB, TURNING,
 };
+use crate::loops::{emit_closing_word, emit_opening, emit_turning};
 use crate::numbers::{emit_division, emit_modulus, emit_product, emit_quotient};
 use crate::writing::{
     emit_closing_text, emit_line_end, emit_run, emit_some_spaces, emit_string_out, emit_to_field,
@@ -21,7 +22,7 @@ use code_frag::{Entry, Frag, Lib};
 use std::alloc::Global;
 
 /// The number of routines, and of their labels.
-const ROUTINES: usize = 13;
+const ROUTINES: usize = 16;
 
 /// A fragment with the routines' labels, which have no places yet.
 fn with_labels(alloc: Global) -> Result<Frag, NoMemory>
@@ -164,6 +165,36 @@ fn add_division(frag: &mut Frag) -> Result<(), NoMemory>
     emit_division(frag)
 }
 
+/// Adds the routine of FOR, REPEAT, WHILE and GOSUB at its label.
+fn add_opening(frag: &mut Frag) -> Result<(), NoMemory>
+    requires open { IsOpen frag.old (label_of Opening) }
+    requires labels { length frag.old.places ≡ routines_count }
+    ensures { OnOk result (frag.new ≡ with_routine Opening frag.old) }
+{
+    frag.place(OPENING);
+    emit_opening(frag)
+}
+
+/// Adds the routine of UNTIL, ENDWHILE and RETURN at its label.
+fn add_closing_word(frag: &mut Frag) -> Result<(), NoMemory>
+    requires open { IsOpen frag.old (label_of ClosingWord) }
+    requires labels { length frag.old.places ≡ routines_count }
+    ensures { OnOk result (frag.new ≡ with_routine ClosingWord frag.old) }
+{
+    frag.place(CLOSING_WORD);
+    emit_closing_word(frag)
+}
+
+/// Adds the routine of NEXT at its label.
+fn add_turning(frag: &mut Frag) -> Result<(), NoMemory>
+    requires open { IsOpen frag.old (label_of Turning) }
+    requires labels { length frag.old.places ≡ routines_count }
+    ensures { OnOk result (frag.new ≡ with_routine Turning frag.old) }
+{
+    frag.place(TURNING);
+    emit_turning(frag)
+}
+
 /// Adds the routines on numbers.
 fn add_numbers(frag: &mut Frag) -> Result<(), NoMemory>
     requires { frag.old ≡ no_routines }
@@ -189,6 +220,16 @@ fn add_writers(frag: &mut Frag) -> Result<(), NoMemory>
     add_to_tab(frag)?;
     add_run(frag)?;
     add_division(frag)
+}
+
+/// Adds the routines on open loops and GOSUBs.
+fn add_loops(frag: &mut Frag) -> Result<(), NoMemory>
+    requires { frag.old ≡ with_routines writers (with_routines numbers no_routines) }
+    ensures { OnOk result (frag.new ≡ with_routines loops (with_routines writers (with_routines numbers no_routines))) }
+{
+    add_opening(frag)?;
+    add_closing_word(frag)?;
+    add_turning(frag)
 }
 
 /// The entries: their numbers, and their labels.
@@ -235,12 +276,24 @@ fn entries(alloc: Global) -> Result<Vec<Entry>, NoMemory>
                 at: CLOSING_TEXT,
             },
             Entry {
+                id: ids::OPENING,
+                at: OPENING,
+            },
+            Entry {
+                id: ids::CLOSING_WORD,
+                at: CLOSING_WORD,
+            },
+            Entry {
                 id: ids::TO_FIELD,
                 at: TO_FIELD,
             },
             Entry {
                 id: ids::TO_TAB,
                 at: TO_TAB,
+            },
+            Entry {
+                id: ids::TURNING,
+                at: TURNING,
             },
         ],
     )?)
@@ -257,6 +310,7 @@ pub fn routines(alloc: Global) -> Result<Lib, NoMemory>
     let mut frag = with_labels(alloc)?;
     add_numbers(&mut frag)?;
     add_writers(&mut frag)?;
+    add_loops(&mut frag)?;
     Ok(Lib {
         frag,
         entries: entries(alloc)?,
