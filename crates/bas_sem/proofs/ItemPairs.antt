@@ -1,6 +1,7 @@
 -- What more steps change in an expression and in an item, whose calls come to the same.
-use Rattle.std.proofs.Common.{ℕ, ◌+◌, List, [], ◌∷◌, Option, None, Some}
+use Rattle.std.proofs.Common.{ℕ, ◌+◌, ◌-◌, List, [], ◌∷◌, Option, None, Some}
 use Rattle.std.specs.Prelude.{ℤ, pos, Bool, true, false}
+use Rattle.std.specs.Ordering.{int_eq}
 use Rattle.bas_ast.specs.declared.expressions.NumExpr.{NumExpr, more_of-NumExpr as held}
 use Rattle.bas_ast.specs.declared.expressions.NumExpr.TheVariants as num
 use Rattle.bas_ast.specs.declared.expressions.StrExpr.{StrExpr}
@@ -8,6 +9,8 @@ use Rattle.bas_ast.specs.declared.expressions.StrExpr.TheVariants as str
 use Rattle.bas_ast.specs.declared.expressions.Variable.TheVariants as var
 use Rattle.bas_ast.specs.declared.lines.Item.{Item}
 use Rattle.bas_ast.specs.declared.lines.Item.TheVariants as item
+use Rattle.bas_ast.specs.declared.lines.Jump.{Jump}
+use Rattle.bas_ast.specs.declared.lines.Jump.TheVariants as jumps
 use Rattle.bas_ast.specs.declared.program.Prog.{Prog}
 use Rattle.bas_ast.specs.declared.statements.Assignment.{Assignment}
 use Rattle.bas_ast.specs.declared.statements.Assignment.TheVariants as assigns
@@ -22,8 +25,10 @@ use Rattle.bas_ast.specs.declared.statements.Stmt.TheVariants as stmt
 use Rattle.bas_ast.specs.declared.statements.VduPart.{VduPart}
 use Rattle.bas_ast.specs.declared.statements.VduPart.TheVariants as sends
 use Rattle.bas_ast.specs.declared.targets.NumTarget.TheVariants as target
-use Rattle.bas_store.specs.Cells.{Value as Content, Cell}
-use Rattle.bas_value.specs.Errors.{no_such_line, stopped}
+use Rattle.bas_store.specs.Cells.{Value as Content, Cell, integer_cell}
+use Rattle.bas_store.specs.Opened.{AnyNext, NextOf, EndWhile, Return}
+use Rattle.bas_store.specs.Stored.{For, Repeat, While, Gosub}
+use Rattle.bas_value.specs.Errors.{no_such_line, on_range, stopped}
 use Rattle.bas_value.specs.Output as out
 use Rattle.bv_run.specs.declared.report.Report.TheVariants.{Done}
 use Rattle.bas_sem.specs.Course.{Action, ◌>>=◌, ◌>>◌}
@@ -32,7 +37,8 @@ use Rattle.bv_num.specs.Operation.{Operation, operation, Add, Subtract}
 use Rattle.bas_sem.specs.Calls.{Calls, Kind, Level, Body, Next, GoOn}
 use Rattle.bas_sem.specs.Evaluate.{evaluate, evaluate_text}
 use Rattle.bas_sem.specs.Operators.{of_one, of_two}
-use Rattle.bas_sem.specs.Items.{assignment, go_to, goes, finish, print, vdu, output, statement, execute_item}
+use Rattle.bas_sem.specs.Items.{assignment, go_to, gosub_to, back_or, nexts, next_of, step_of, while_if, goes, chosen, on_line, out_of_range, on_chosen, finish, print, vdu, output, statement, execute_item}
+use Rattle.bas_sem.proofs.LoopPairs.{opens_pair, closing_pair, until_pair, next_pair}
 use Rattle.bas_sem.proofs.Longer.{Pair, bind_pair, then_pair, give_pair, over_pair, write_pair, column_pair, change_pair, read_pair, or_raise_pair, raise_pair}
 
 -- Calls that come to the same.
@@ -117,22 +123,72 @@ module _ (prog : Prog) (d f g : ℕ) (calls calls' : Calls) (same : CallsPair d 
   go_to_pair None line = raise_pair Next d f g no_such_line line
   go_to_pair (Some place) line = give_pair d f g (GoOn place)
 
-  goes_pair : (line : ℕ) (w : Flow) → Pair d f g (goes prog line w) (goes prog line w)
-  goes_pair line (flow.Goto number) = go_to_pair _ line
-  goes_pair line flow.End = over_pair Next d f g Done
-  goes_pair line flow.Quit = over_pair Next d f g Done
-  goes_pair line flow.Stop = raise_pair Next d f g stopped line
-  goes_pair line _ = outside_pair Next
+  gosub_to_pair : (level : Level) (place line : ℕ) (to : Option ℕ) → Pair d f g (gosub_to level place line to) (gosub_to level place line to)
+  gosub_to_pair level place line None = raise_pair Next d f g no_such_line line
+  gosub_to_pair level place line (Some to) = then_pair d f g _ _ _ _ (opens_pair d f g level.depth line Gosub (place + 1)) (give_pair d f g (GoOn to))
 
-  statement_pair : (place line : ℕ) (s : Stmt) → Pair d f g (statement prog calls place line s) (statement prog calls' place line s)
-  statement_pair place line (stmt.Assign a) = then_pair d f g _ _ _ _ (assignment_pair line a) (give_pair d f g (GoOn (place + 1)))
-  statement_pair place line (stmt.Flow w) = goes_pair line w
-  statement_pair place line (stmt.Output o) = then_pair d f g _ _ _ _ (output_pair line o) (give_pair d f g (GoOn (place + 1)))
-  statement_pair place line _ = outside_pair Next
+  back_or_pair : (rest : Action Next) → Pair d f g rest rest → (back : Option ℕ) → Pair d f g (back_or rest back) (back_or rest back)
+  back_or_pair rest same None = same
+  back_or_pair rest same (Some place) = give_pair d f g (GoOn place)
+
+  nexts_pair : (level : Level) (place line : ℕ) (names : List ℕ) → Pair d f g (nexts prog level place line names) (nexts prog level place line names)
+  nexts_pair level place line [] = give_pair d f g (GoOn (place + 1))
+  nexts_pair level place line (name ∷ names) =
+      bind_pair d f g _ _ _ _ (next_pair d f g level.depth line (NextOf (integer_cell prog.names name))) (back_or_pair _ (nexts_pair level place line names))
+
+  next_of_pair : (level : Level) (place line : ℕ) (names : List ℕ) → Pair d f g (next_of prog level place line names) (next_of prog level place line names)
+  next_of_pair level place line [] = bind_pair d f g _ _ _ _ (next_pair d f g level.depth line AnyNext) (back_or_pair _ (give_pair d f g (GoOn (place + 1))))
+  next_of_pair level place line (name ∷ names) = nexts_pair level place line (name ∷ names)
+
+  step_of_pair : (line : ℕ) (z : Option NumExpr) → Pair d f g (step_of prog calls line z) (step_of prog calls' line z)
+  step_of_pair line None = give_pair d f g (pos 1)
+  step_of_pair line (Some x) = evaluate_pair line x
+
+  while_if_pair : (none : Bool) (level : Level) (place line : ℕ) → Pair d f g (while_if none prog level place line) (while_if none prog level place line)
+  while_if_pair true level place line = give_pair d f g _
+  while_if_pair false level place line = then_pair d f g _ _ _ _ (opens_pair d f g level.depth line While (place + 1)) (give_pair d f g (GoOn (place + 1)))
+
+  goes_pair : (level : Level) (place line : ℕ) (w : Flow) → Pair d f g (goes prog calls level place line w) (goes prog calls' level place line w)
+  goes_pair level place line (flow.Goto number) = go_to_pair _ line
+  goes_pair level place line (flow.Gosub number) = gosub_to_pair level place line _
+  goes_pair level place line flow.Return = bind_pair d f g _ _ _ _ (closing_pair d f g level.depth line Return) (λ after. give_pair d f g (GoOn after))
+  goes_pair level place line (flow.For name x y z) =
+      bind_pair d f g _ _ _ _ (evaluate_pair line x) (λ start. then_pair d f g _ _ _ _ (change_pair d f g _)
+      (bind_pair d f g _ _ _ _ (evaluate_pair line y) (λ limit. bind_pair d f g _ _ _ _ (step_of_pair line z)
+      (λ step. then_pair d f g _ _ _ _ (opens_pair d f g level.depth line (For (integer_cell prog.names name) limit step) (place + 1)) (give_pair d f g (GoOn (place + 1)))))))
+  goes_pair level place line (flow.Next names) = next_of_pair level place line names
+  goes_pair level place line (flow.Until x) =
+      bind_pair d f g _ _ _ _ (evaluate_pair line x)
+      (λ value. bind_pair d f g _ _ _ _ (until_pair d f g level.depth line value) (back_or_pair _ (give_pair d f g (GoOn (place + 1)))))
+  goes_pair level place line (flow.While x) = bind_pair d f g _ _ _ _ (evaluate_pair line x) (λ value. while_if_pair (int_eq value (pos 0)) level place line)
+  goes_pair level place line flow.EndWhile = bind_pair d f g _ _ _ _ (closing_pair d f g level.depth line EndWhile) (λ after. give_pair d f g (GoOn (after - 1)))
+  goes_pair level place line flow.End = over_pair Next d f g Done
+  goes_pair level place line flow.Quit = over_pair Next d f g Done
+  goes_pair level place line flow.Stop = raise_pair Next d f g stopped line
+
+  on_line_pair : (level : Level) (place line : ℕ) (jump : Jump) (number : ℕ) → Pair d f g (on_line prog level place line jump number) (on_line prog level place line jump number)
+  on_line_pair level place line jumps.Goto number = go_to_pair _ line
+  on_line_pair level place line jumps.Gosub number = gosub_to_pair level place line _
+
+  out_of_range_pair : (line : ℕ) (to : Option ℕ) → Pair d f g (out_of_range line to) (out_of_range line to)
+  out_of_range_pair line None = raise_pair Next d f g on_range line
+  out_of_range_pair line (Some place) = give_pair d f g (GoOn place)
+
+  on_chosen_pair : (level : Level) (place line : ℕ) (jump : Jump) (to : Option ℕ) → Pair d f g (on_chosen prog level place line jump to) (on_chosen prog level place line jump to)
+  on_chosen_pair level place line jump None = out_of_range_pair line _
+  on_chosen_pair level place line jump (Some number) = on_line_pair level place line jump number
+
+  statement_pair : (level : Level) (place line : ℕ) (s : Stmt) → Pair d f g (statement prog calls level place line s) (statement prog calls' level place line s)
+  statement_pair level place line (stmt.Assign a) = then_pair d f g _ _ _ _ (assignment_pair line a) (give_pair d f g (GoOn (place + 1)))
+  statement_pair level place line (stmt.Flow w) = goes_pair level place line w
+  statement_pair level place line (stmt.Output o) = then_pair d f g _ _ _ _ (output_pair line o) (give_pair d f g (GoOn (place + 1)))
+  statement_pair level place line _ = outside_pair Next
 
   pub item_pair : (level : Level) (place line : ℕ) (i : Item) → Pair d f g (execute_item prog calls level place line i) (execute_item prog calls' level place line i)
-  item_pair level place line (item.Stmt s) = statement_pair place line s
+  item_pair level place line (item.Stmt s) = statement_pair level place line s
   item_pair level place line (item.If x) = bind_pair d f g _ _ _ _ (evaluate_pair line x) (λ value. give_pair d f g _)
+  item_pair level place line (item.On x jump lines) = bind_pair d f g _ _ _ _ (evaluate_pair line x) (λ value. on_chosen_pair level place line jump (chosen value lines))
+  item_pair level place line item.Repeat = then_pair d f g _ _ _ _ (opens_pair d f g level.depth line Repeat (place + 1)) (give_pair d f g (GoOn (place + 1)))
   item_pair level place line item.Else = give_pair d f g _
   item_pair level place line item.Remark = give_pair d f g (GoOn (place + 1))
   item_pair level place line _ = outside_pair Next

@@ -1,26 +1,32 @@
 -- The laws of runs: a greater bound keeps an end, the fuel is never seen, and the outermost level is never left.
-use Rattle.std.proofs.Common.{◌≡◌, ℕ, zero, suc, ◌+◌, ◌≤◌, List, Option, None, Some, refl, sym, ap, subst, ◌∙◌, arith, rules}
+use Rattle.std.proofs.Common.{◌≡◌, ℕ, zero, suc, ◌+◌, ◌≤◌, List, [], ◌∷◌, Option, None, Some, refl, sym, ap, subst, ◌∙◌, arith, rules}
 use Rattle.std.specs.Prelude.{ℤ, Bool, true, false, pos, nat_le}
+use Rattle.bas_ast.specs.declared.expressions.NumExpr.{NumExpr}
 use Rattle.bas_ast.specs.declared.lines.Item.{Item}
 use Rattle.bas_ast.specs.declared.lines.Item.TheVariants as item
+use Rattle.bas_ast.specs.declared.lines.Jump.{Jump}
+use Rattle.bas_ast.specs.declared.lines.Jump.TheVariants as jumps
 use Rattle.bas_ast.specs.declared.program.Prog.{Prog}
 use Rattle.bas_ast.specs.declared.statements.Flow.{Flow}
 use Rattle.bas_ast.specs.declared.statements.Flow.TheVariants as flow
 use Rattle.bas_ast.specs.declared.statements.Stmt.{Stmt}
 use Rattle.bas_ast.specs.declared.statements.Stmt.TheVariants as stmt
-use Rattle.bas_store.specs.Stored.{Handler}
+use Rattle.bas_store.specs.Cells.{Cell, integer_cell}
+use Rattle.bas_store.specs.Opened.{AnyNext, NextOf, EndWhile, Return}
+use Rattle.bas_store.specs.Stored.{Handler, Opening, For, Repeat, While, Gosub}
 use Rattle.std.specs.Ordering.{int_eq}
-use Rattle.bas_value.specs.Errors.{error_text, no_such_line, stopped}
+use Rattle.bas_value.specs.Errors.{error_text, no_such_line, on_range, stopped}
 use Rattle.bv_run.specs.Outcome.{IsPrefix, output_of}
 use Rattle.bv_run.specs.Outcome as outcomes
 use Rattle.bv_run.specs.declared.report.Report.{Report}
 use Rattle.bas_store.specs.Cells.{Value as Content}
 use Rattle.bas_sem.specs.State.{State, start}
 use Rattle.bas_sem.specs.Course.{Course, Value, Raised, Over, Spent, Action, on_value, ◌>>=◌, ◌>>◌}
-use Rattle.bas_sem.specs.Actions.{taker, raise, spend, take_step, raised_to, taken, place_of, owner_of}
-use Rattle.bas_sem.specs.Calls.{Calls, Level, outermost, Next, GoOn, Leave, call, taken_here, handled, handling, onward}
+use Rattle.bas_sem.specs.Actions.{taker, raise, assign, spend, take_step, raised_to, taken, place_of, owner_of}
+use Rattle.bas_sem.specs.Calls.{Calls, Level, outermost, Next, GoOn, Leave, go_on, call, taken_here, handled, handling, onward}
 use Rattle.bas_sem.specs.Evaluate.{evaluate}
-use Rattle.bas_sem.specs.Items.{assignment, go_to, goes, output, statement, execute_item}
+use Rattle.bas_sem.specs.Items.{assignment, go_to, gosub_to, back_or, nexts, next_of, step_of, while_if, goes, chosen, on_line, out_of_range, on_chosen, output, statement, execute_item}
+use Rattle.bas_sem.specs.Loops.{opens, closing, until, next}
 use Rattle.bas_sem.specs.Laws.{executed, GoesOn, IsKept, BoundKept, EndUnique, IsEnd, OutermostEnds}
 use Rattle.bas_sem.specs.Meaning.{at_row, execute, outcome_of, source_run}
 use Rattle.bas_sem.specs.Places.{Row, row_at}
@@ -219,22 +225,74 @@ module _ (prog : Prog) where
   go_to_going None line s = raise_going no_such_line line s
   go_to_going (Some place) line s = tt
 
-  goes_going : (line : ℕ) (w : Flow) (s : State) → IsGoing (goes prog line w s)
-  goes_going line (flow.Goto number) s = go_to_going _ line s
-  goes_going line flow.Stop s = raise_going stopped line s
-  goes_going line flow.End s = tt
-  goes_going line flow.Quit s = tt
-  goes_going line _ s = tt
+  opened_going : (line : ℕ) (opening : Opening) (place to : ℕ) (s : State) → IsGoing ((opens 0 line opening place >> go_on to) s)
+  opened_going line opening place to s = bind_going (opens 0 line opening place s) (λ _. go_on to) (λ v t. tt)
 
-  statement_going : (calls : Calls) (place line : ℕ) (x : Stmt) (s : State) → IsGoing (statement prog calls place line x s)
+  gosub_to_going : (place line : ℕ) (to : Option ℕ) (s : State) → IsGoing (gosub_to outermost place line to s)
+  gosub_to_going place line None s = raise_going no_such_line line s
+  gosub_to_going place line (Some to) s = opened_going line Gosub (place + 1) to s
+
+  back_or_going : (rest : Action Next) → ((s : State) → IsGoing (rest s)) → (back : Option ℕ) (s : State) → IsGoing (back_or rest back s)
+  back_or_going rest each None s = each s
+  back_or_going rest each (Some place) s = tt
+
+  nexts_going : (place line : ℕ) (names : List ℕ) (s : State) → IsGoing (nexts prog outermost place line names s)
+  nexts_going place line [] s = tt
+  nexts_going place line (name ∷ names) s =
+      bind_going (next 0 line (NextOf (integer_cell prog.names name)) s) _ (back_or_going (nexts prog outermost place line names) (nexts_going place line names))
+
+  next_of_going : (place line : ℕ) (names : List ℕ) (s : State) → IsGoing (next_of prog outermost place line names s)
+  next_of_going place line [] s = bind_going (next 0 line AnyNext s) _ (back_or_going (go_on (place + 1)) (λ t. tt))
+  next_of_going place line (name ∷ names) s = nexts_going place line (name ∷ names) s
+
+  while_if_going : (none : Bool) (place line : ℕ) (s : State) → IsGoing (while_if none prog outermost place line s)
+  while_if_going true place line s = tt
+  while_if_going false place line s = opened_going line While (place + 1) (place + 1) s
+
+  for_going : (calls : Calls) (place line name : ℕ) (x y : NumExpr) (z : Option NumExpr) (s : State) → IsGoing (goes prog calls outermost place line (flow.For name x y z) s)
+  for_going calls place line name x y z s =
+      let cell : Cell = integer_cell prog.names name in
+      bind_going (evaluate prog calls line x s) _ (λ start t. bind_going (assign cell start t) _
+      (λ _ u. bind_going (evaluate prog calls line y u) _ (λ limit v. bind_going (step_of prog calls line z v) _
+      (λ step w. opened_going line (For cell limit step) (place + 1) (place + 1) w))))
+
+  goes_going : (calls : Calls) (place line : ℕ) (w : Flow) (s : State) → IsGoing (goes prog calls outermost place line w s)
+  goes_going calls place line (flow.Goto number) s = go_to_going _ line s
+  goes_going calls place line (flow.Gosub number) s = gosub_to_going place line _ s
+  goes_going calls place line flow.Return s = bind_going (closing 0 line Return s) _ (λ v t. tt)
+  goes_going calls place line (flow.For name x y z) s = for_going calls place line name x y z s
+  goes_going calls place line (flow.Next names) s = next_of_going place line names s
+  goes_going calls place line (flow.Until x) s =
+      bind_going (evaluate prog calls line x s) _ (λ value t. bind_going (until 0 line value t) _ (back_or_going (go_on (place + 1)) (λ u. tt)))
+  goes_going calls place line (flow.While x) s = bind_going (evaluate prog calls line x s) _ (λ value t. while_if_going (int_eq value (pos 0)) place line t)
+  goes_going calls place line flow.EndWhile s = bind_going (closing 0 line EndWhile s) _ (λ v t. tt)
+  goes_going calls place line flow.Stop s = raise_going stopped line s
+  goes_going calls place line flow.End s = tt
+  goes_going calls place line flow.Quit s = tt
+
+  statement_going : (calls : Calls) (place line : ℕ) (x : Stmt) (s : State) → IsGoing (statement prog calls outermost place line x s)
   statement_going calls place line (stmt.Assign a) s = bind_going (assignment prog calls line a s) _ (λ v t. tt)
-  statement_going calls place line (stmt.Flow w) s = goes_going line w s
+  statement_going calls place line (stmt.Flow w) s = goes_going calls place line w s
   statement_going calls place line (stmt.Output o) s = bind_going (output prog calls line o s) _ (λ v t. tt)
   statement_going calls place line _ s = tt
+
+  on_line_going : (place line : ℕ) (jump : Jump) (number : ℕ) (s : State) → IsGoing (on_line prog outermost place line jump number s)
+  on_line_going place line jumps.Goto number s = go_to_going _ line s
+  on_line_going place line jumps.Gosub number s = gosub_to_going place line _ s
+
+  out_of_range_going : (line : ℕ) (to : Option ℕ) (s : State) → IsGoing (out_of_range line to s)
+  out_of_range_going line None s = raise_going on_range line s
+  out_of_range_going line (Some place) s = tt
+
+  on_chosen_going : (place line : ℕ) (jump : Jump) (to : Option ℕ) (s : State) → IsGoing (on_chosen prog outermost place line jump to s)
+  on_chosen_going place line jump None s = out_of_range_going line _ s
+  on_chosen_going place line jump (Some number) s = on_line_going place line jump number s
 
   item_going : (calls : Calls) (place line : ℕ) (i : Item) (s : State) → IsGoing (execute_item prog calls outermost place line i s)
   item_going calls place line (item.Stmt x) s = statement_going calls place line x s
   item_going calls place line (item.If x) s = bind_going (evaluate prog calls line x s) _ (λ v t. tt)
+  item_going calls place line (item.On x jump lines) s = bind_going (evaluate prog calls line x s) _ (λ value t. on_chosen_going place line jump (chosen value lines) t)
+  item_going calls place line item.Repeat s = opened_going line Repeat (place + 1) (place + 1) s
   item_going calls place line item.Else s = tt
   item_going calls place line item.Remark s = tt
   item_going calls place line _ s = tt

@@ -1,10 +1,13 @@
 -- What each item of a program does, one equation for each kind (BBC BASIC Reference Manual, under the item's keyword). The
 -- forms that have no meaning yet share the last equation of their family.
-use Rattle.std.specs.Prelude.{ℕ, ◌+◌, ℤ, pos, Bool, true, false, List, [], ◌∷◌, Option, None, Some, if◌then◌else◌}
+use Rattle.std.specs.Prelude.{ℕ, suc, ◌+◌, ◌-◌, ℤ, pos, Bool, true, false, List, [], ◌∷◌, Option, None, Some, slice_get, if◌then◌else◌}
 use Rattle.std.specs.Ordering.{int_eq}
+use Rattle.bas_ast.specs.declared.expressions.NumExpr.{NumExpr}
 use Rattle.bas_ast.specs.declared.expressions.Variable.TheVariants as var
 use Rattle.bas_ast.specs.declared.lines.Item.{Item}
 use Rattle.bas_ast.specs.declared.lines.Item.TheVariants as item
+use Rattle.bas_ast.specs.declared.lines.Jump.{Jump}
+use Rattle.bas_ast.specs.declared.lines.Jump.TheVariants as jumps
 use Rattle.bas_ast.specs.declared.program.Prog.{Prog}
 use Rattle.bas_ast.specs.declared.statements.Assignment.{Assignment}
 use Rattle.bas_ast.specs.declared.statements.Assignment.TheVariants as assigns
@@ -20,7 +23,9 @@ use Rattle.bas_ast.specs.declared.statements.VduPart.{VduPart}
 use Rattle.bas_ast.specs.declared.statements.VduPart.TheVariants as sends
 use Rattle.bas_ast.specs.declared.targets.NumTarget.TheVariants as target
 use Rattle.bas_store.specs.Cells.{integer_cell}
-use Rattle.bas_value.specs.Errors.{no_such_line, stopped}
+use Rattle.bas_store.specs.Opened.{AnyNext, NextOf, EndWhile, Return}
+use Rattle.bas_store.specs.Stored.{For, Repeat, While, Gosub}
+use Rattle.bas_value.specs.Errors.{no_such_line, on_range, stopped}
 use Rattle.bas_value.specs.Output as out
 use Rattle.bv_num.specs.Operation.{operation, Add, Subtract}
 use Rattle.bv_run.specs.declared.report.Report.TheVariants.{Done}
@@ -28,7 +33,8 @@ use Rattle.bas_sem.specs.Course.{Action, ◌>>=◌, ◌>>◌, give, over}
 use Rattle.bas_sem.specs.Actions.{outside, read, assign, write, raise, or_raise}
 use Rattle.bas_sem.specs.Calls.{Calls, Level, Next, go_on}
 use Rattle.bas_sem.specs.Evaluate.{evaluate, evaluate_text}
-use Rattle.bas_sem.specs.Places.{next_line, else_place, line_place}
+use Rattle.bas_sem.specs.Loops.{opens, closing, until, next}
+use Rattle.bas_sem.specs.Places.{next_line, else_place, on_else, after_endwhile, line_place}
 
 -- LET: the value is evaluated and then stored. `+=` and `-=` read the old value before they evaluate the other.
 abbrev pub assignment : Prog → Calls → ℕ → Assignment → Action (Unit {0})
@@ -52,13 +58,76 @@ abbrev pub go_to : Option ℕ → ℕ → Action Next
 go_to None line = raise no_such_line line
 go_to (Some place) line = go_on place
 
--- GOTO, END, QUIT and STOP. A line that the program doesn't have is an error when it is gone to.
-abbrev pub goes : Prog → ℕ → Flow → Action Next
-goes prog line (flow.Goto number) = go_to (line_place prog number) line
-goes prog line flow.End = over Done
-goes prog line flow.Quit = over Done
-goes prog line flow.Stop = raise stopped line
-goes prog line _ = outside
+-- GOSUB at a place: the line is gone to, with the place after the item open
+abbrev pub gosub_to : Level → ℕ → ℕ → Option ℕ → Action Next
+gosub_to level place line None = raise no_such_line line
+gosub_to level place line (Some to) = opens level.depth line Gosub (place + 1) >> go_on to
+
+-- goes round a loop again, or else on with the rest
+abbrev pub back_or : Action Next → Option ℕ → Action Next
+back_or rest None = rest
+back_or rest (Some place) = go_on place
+
+-- NEXT of each of these variables: one that goes round again leaves the rest unseen
+abbrev pub nexts : Prog → Level → ℕ → ℕ → List ℕ → Action Next
+nexts prog level place line [] = go_on (place + 1)
+nexts prog level place line (name ∷ names) = next level.depth line (NextOf (integer_cell prog.names name)) >>= back_or (nexts prog level place line names)
+
+-- NEXT, with the variables that it has
+abbrev pub next_of : Prog → Level → ℕ → ℕ → List ℕ → Action Next
+next_of prog level place line [] = next level.depth line AnyNext >>= back_or (go_on (place + 1))
+next_of prog level place line (name ∷ names) = nexts prog level place line (name ∷ names)
+
+-- the step of FOR, 1 where it has none
+abbrev pub step_of : Prog → Calls → ℕ → Option NumExpr → Action ℤ
+step_of prog calls line None = give (pos 1)
+step_of prog calls line (Some x) = evaluate prog calls line x
+
+-- WHILE at a place, by whether its value is 0
+abbrev pub while_if : Bool → Prog → Level → ℕ → ℕ → Action Next
+while_if true prog level place line = go_on (after_endwhile prog place)
+while_if false prog level place line = opens level.depth line While (place + 1) >> go_on (place + 1)
+
+-- What says where the run goes on. A line that the program doesn't have is an error when it is gone to. FOR stores its start before
+-- it evaluates its limit and its step. ENDWHILE goes on at its WHILE, which is executed again.
+abbrev pub goes : Prog → Calls → Level → ℕ → ℕ → Flow → Action Next
+goes prog calls level place line (flow.Goto number) = go_to (line_place prog number) line
+goes prog calls level place line (flow.Gosub number) = gosub_to level place line (line_place prog number)
+goes prog calls level place line flow.Return = closing level.depth line Return >>= go_on
+goes prog calls level place line (flow.For name x y z) = do
+  start ← evaluate prog calls line x
+  assign (integer_cell prog.names name) start
+  limit ← evaluate prog calls line y
+  step ← step_of prog calls line z
+  opens level.depth line (For (integer_cell prog.names name) limit step) (place + 1)
+  go_on (place + 1)
+goes prog calls level place line (flow.Next names) = next_of prog level place line names
+goes prog calls level place line (flow.Until x) = evaluate prog calls line x >>= (λ value. until level.depth line value >>= back_or (go_on (place + 1)))
+goes prog calls level place line (flow.While x) = evaluate prog calls line x >>= (λ value. while_if (int_eq value (pos 0)) prog level place line)
+goes prog calls level place line flow.EndWhile = closing level.depth line EndWhile >>= (λ after. go_on (after - 1))
+goes prog calls level place line flow.End = over Done
+goes prog calls level place line flow.Quit = over Done
+goes prog calls level place line flow.Stop = raise stopped line
+
+-- the n-th line of ON, counted from 1, if there is one
+abbrev pub chosen : ℤ → List ℕ → Option ℕ
+chosen (pos (suc n)) lines = slice_get lines n
+chosen _ lines = None
+
+-- ON at a place, with the line that is chosen
+abbrev pub on_line : Prog → Level → ℕ → ℕ → Jump → ℕ → Action Next
+on_line prog level place line jumps.Goto number = go_to (line_place prog number) line
+on_line prog level place line jumps.Gosub number = gosub_to level place line (line_place prog number)
+
+-- ON whose number has no line: after the ELSE, or error 40
+abbrev pub out_of_range : ℕ → Option ℕ → Action Next
+out_of_range line None = raise on_range line
+out_of_range line (Some place) = go_on place
+
+-- ON at a place, with the line that is chosen or none
+abbrev pub on_chosen : Prog → Level → ℕ → ℕ → Jump → Option ℕ → Action Next
+on_chosen prog level place line jump None = out_of_range line (on_else prog place)
+on_chosen prog level place line jump (Some number) = on_line prog level place line jump number
 
 -- a new line where it is wanted
 abbrev pub finish : Bool → Action (Unit {0})
@@ -110,11 +179,11 @@ output prog calls line (writes.Colour x) = evaluate prog calls line x >>= (λ va
 output prog calls line writes.Cls = write out.Clear
 
 -- a plain statement at a place
-abbrev pub statement : Prog → Calls → ℕ → ℕ → Stmt → Action Next
-statement prog calls place line (stmt.Assign a) = assignment prog calls line a >> go_on (place + 1)
-statement prog calls place line (stmt.Flow f) = goes prog line f
-statement prog calls place line (stmt.Output o) = output prog calls line o >> go_on (place + 1)
-statement prog calls place line _ = outside
+abbrev pub statement : Prog → Calls → Level → ℕ → ℕ → Stmt → Action Next
+statement prog calls level place line (stmt.Assign a) = assignment prog calls line a >> go_on (place + 1)
+statement prog calls level place line (stmt.Flow f) = goes prog calls level place line f
+statement prog calls level place line (stmt.Output o) = output prog calls line o >> go_on (place + 1)
+statement prog calls level place line _ = outside
 
 -- Where IF goes on: with 0 after the first ELSE after it on its line, or at the next line where there is none.
 abbrev pub branch : Prog → ℕ → ℤ → ℕ
@@ -122,8 +191,11 @@ branch prog place value = if int_eq value (pos 0) then else_place prog place els
 
 -- An item at a place. A met ELSE goes on at the next line. REM is the last item of its line.
 abbrev pub execute_item : Prog → Calls → Level → ℕ → ℕ → Item → Action Next
-execute_item prog calls level place line (item.Stmt s) = statement prog calls place line s
+execute_item prog calls level place line (item.Stmt s) = statement prog calls level place line s
 execute_item prog calls level place line (item.If x) = evaluate prog calls line x >>= (λ value. go_on (branch prog place value))
+execute_item prog calls level place line (item.On x jump lines) =
+    evaluate prog calls line x >>= (λ value. on_chosen prog level place line jump (chosen value lines))
+execute_item prog calls level place line item.Repeat = opens level.depth line Repeat (place + 1) >> go_on (place + 1)
 execute_item prog calls level place line item.Else = go_on (next_line prog place)
 execute_item prog calls level place line item.Remark = go_on (place + 1)
 execute_item prog calls level place line _ = outside

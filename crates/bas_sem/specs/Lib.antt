@@ -3,6 +3,7 @@ pub mod Course
 pub mod Actions
 pub mod Places
 pub mod Operators
+pub mod Loops
 pub mod Calls
 pub mod Evaluate
 pub mod Items

@@ -1,5 +1,5 @@
 -- The variables of a program, and where each of them is kept (BBC BASIC Reference Manual, resident integer variables).
-use Rattle.std.specs.Prelude.{ℕ, ◌-◌, ◌==◌, ◌&&◌, ℤ, List, [], ◌∷◌, Option, None, Some, nat_le, slice_get, if◌then◌else◌}
+use Rattle.std.specs.Prelude.{ℕ, Bool, false, ◌-◌, ◌==◌, ◌&&◌, ℤ, List, [], ◌∷◌, Option, None, Some, nat_le, slice_get, if◌then◌else◌}
 use Rattle.bas_ast.specs.declared.program.Name.{Name}
 use Rattle.bas_ast.specs.declared.targets.SimpleVariable.{SimpleVariable}
 use Rattle.bas_ast.specs.declared.targets.SimpleVariable.TheVariants as simple
@@ -18,6 +18,12 @@ pub data Cell : Type 0 where
 pub data Slot : Type 0 where
   OfNumber : (cell : Cell) → Slot
   OfText : (name : ℕ) → Slot
+
+-- whether two cells are the same one
+abbrev pub same_cell : Cell → Cell → Bool
+same_cell (Resident a) (Resident b) = a == b
+same_cell (Integer a) (Integer b) = a == b
+same_cell _ _ = false
 
 -- the number of resident integers: A% to Z%, and then @%
 abbrev pub residents : ℕ

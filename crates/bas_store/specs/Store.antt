@@ -9,7 +9,7 @@ use Rattle.bas_value.specs.Errors.{unknown_variable}
 use Rattle.bas_store.specs.Cells.{Value, Number, Text, Resident, Integer, Slot, OfNumber, OfText, residents}
 use Rattle.bas_store.specs.Stored.{Stored, number_in, string_in}
 
--- what a store stands for: there are no arrays, saved values and open entries in it yet
+-- what a store stands for: there are no arrays and saved values in it yet
 abbrev pub stored_of : Store → Stored
 stored_of store = record {
   residents = store.residents;
@@ -18,7 +18,7 @@ stored_of store = record {
   arrays = replicate (length store.integers) None;
   array_room = 0;
   saved = [];
-  opened = [];
+  opened = store.opened;
 }
 
 -- where a variable is kept

@@ -32,7 +32,8 @@ pub data Opening : Type 0 where
   While : Opening
   Gosub : Opening
 
--- an open entry, with the depth of its call and the place at which its closing word goes on
+-- An open entry, with the depth of its call and the place after the item that opened it: NEXT, UNTIL and RETURN go on there, and
+-- ENDWHILE at the WHILE before it.
 pub record Entry : Type 0 where
   pub call : ℕ
   pub opening : Opening

@@ -1,4 +1,7 @@
 //! Variables and their values.
+ghost use Rattle.std.specs.Prelude.{◌≡◌};
+ghost use Rattle.bas_store.specs.Cells.{same_cell};
+ghost use Rattle.bas_store.specs.Entries.{cell_of};
 
 use bas_value::Str;
 
@@ -21,4 +24,26 @@ pub enum Variable {
 pub enum BasValue {
     Num(i32),
     Text(Str),
+}
+
+/// The cell of an integer.
+#[derive(Clone, Copy, Drop)]
+pub enum IntegerCell {
+    /// A resident integer: A% to Z% are 0 to 25, and @% is 26.
+    Resident(u8),
+    /// The integer of the name at a place among the program's names.
+    Named(u16),
+}
+
+impl IntegerCell {
+    /// Whether two cells are the same one.
+    pub fn is(self, other: IntegerCell) -> bool
+        ensures { result ≡ same_cell (cell_of self) (cell_of other) }
+    {
+        match (self, other) {
+            (IntegerCell::Resident(a), IntegerCell::Resident(b)) => a == b,
+            (IntegerCell::Named(a), IntegerCell::Named(b)) => a == b,
+            _ => false,
+        }
+    }
 }

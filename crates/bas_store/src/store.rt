@@ -5,6 +5,7 @@ ghost use Rattle.bas_store.specs.Stored.{nothing_stored, number_in, with_number,
 ghost use Rattle.bas_store.specs.Store.{stored_of, slot_of, content_of, answer_in, IsKept};
 
 use crate::cell::{BasValue, UNKNOWN_VARIABLE, Variable};
+use crate::opened::OpenEntries;
 use bas_ast::Prog;
 use bas_value::Str;
 use bv_base::NoMemory;
@@ -23,6 +24,8 @@ pub struct Store {
     pub integers: Items<Option<i32>>,
     /// The strings likewise.
     pub strings: Items<Option<Str>>,
+    /// The open loops and GOSUBs.
+    pub opened: OpenEntries,
 }
 
 impl Store {
@@ -35,6 +38,7 @@ impl Store {
             residents: [0; RESIDENTS],
             integers: Items::from_vec(vec![in alloc; None; names]?),
             strings: Items::from_vec(vec![in alloc; None; names]?),
+            opened: OpenEntries::new(alloc)?,
         })
     }
 

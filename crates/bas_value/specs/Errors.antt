@@ -22,13 +22,37 @@ no_procedure = 13
 abbrev pub unknown_variable : ℕ
 unknown_variable = 26
 
+-- NEXT where no FOR is open
+abbrev pub no_for : ℕ
+no_for = 32
+
+-- NEXT of a variable where only FORs of others are open
+abbrev pub other_for : ℕ
+other_for = 33
+
 -- a call, a saved value or an open entry for which there is no room
 abbrev pub no_room : ℕ
 no_room = 37
 
+-- RETURN where no GOSUB is open
+abbrev pub no_subroutine : ℕ
+no_subroutine = 38
+
+-- a number of ON that has no line
+abbrev pub on_range : ℕ
+on_range = 40
+
 -- a line that the program does not have
 abbrev pub no_such_line : ℕ
 no_such_line = 41
+
+-- UNTIL where no REPEAT is open
+abbrev pub no_repeat : ℕ
+no_repeat = 43
+
+-- ENDWHILE where no WHILE is open
+abbrev pub no_while : ℕ
+no_while = 46
 
 -- a text beside its number
 pub record NumberedText : Type 0 where
