@@ -2,10 +2,12 @@
 use Rattle.std.specs.Prelude.{◌≡◌, ℕ, suc, ◌<◌, ◌≤◌, ◌^◌, FitsSigned, Some, length, slice_get}
 use Rattle.std.specs.Int.{w32}
 use Rattle.bas_ir.specs.declared.ir.Ir.{Ir}
+use Rattle.bas_ir.specs.declared.op.Counter.{Counter}
+use Rattle.bas_ir.specs.declared.op.Counter.TheVariants as counters
 use Rattle.bas_ir.specs.declared.op.Op.{Op}
 use Rattle.bas_ir.specs.declared.op.Op.TheVariants as o
 use Rattle.bas_store.specs.Cells.{residents}
-use Rattle.bas_ir.specs.Heights.{empty_height}
+use Rattle.bas_ir.specs.Heights.{empty_height, one_more}
 use Rattle.bas_ir.specs.Places.{start_of, marks_in}
 use Rattle.bas_ir.specs.WellFormed.{height_at}
 
@@ -14,6 +16,7 @@ use Rattle.bas_ir.specs.WellFormed.{height_at}
 abbrev pub HasCode : Op → Type 0
 HasCode (o.PushResident index) = index < residents
 HasCode (o.StoreResident index) = index < residents
+HasCode (o.RaiseIfOne error line) = error < 2 ^ 8
 HasCode (o.Raise error line) = error < 2 ^ 8
 HasCode (o.Enter kind routine line) = ⊥
 HasCode (o.LeaveProcedure line) = ⊥
@@ -33,6 +36,11 @@ AllHaveCode ir = (pc : ℕ) (op : Op) → slice_get ir.ops pc ≡ Some op → Ha
 abbrev pub AtMostOneText : Ir → Type 0
 AtMostOneText ir = (pc : ℕ) → (height_at ir pc).texts ≤ 1
 
+-- the number of a FOR's variable has the width of its field
+abbrev pub HasCounterWidth : Counter → Type 0
+HasCounterWidth (counters.Resident index) = index < 2 ^ 8
+HasCounterWidth (counters.Integer name) = name < 2 ^ 16
+
 -- The numbers of an operation that has machine code have the widths of their fields: integers have 32 bits with a sign, places of
 -- items and texts 32 bits, names and lines 16 bits, residents and errors 8 bits.
 abbrev pub HasWidths : Op → Type 0
@@ -46,6 +54,18 @@ HasWidths (o.StoreResident index) = index < 2 ^ 8
 HasWidths (o.StoreInteger name) = name < 2 ^ 16
 HasWidths (o.Go item) = item < 2 ^ 32
 HasWidths (o.GoIfZero item) = item < 2 ^ 32
+HasWidths (o.GoIfOne item) = item < 2 ^ 32
+HasWidths (o.GosubIfOne item line) = (item < 2 ^ 32) × (line < 2 ^ 16)
+HasWidths (o.RaiseIfOne error line) = (error < 2 ^ 8) × (line < 2 ^ 16)
+HasWidths (o.OpenFor counter line) = HasCounterWidth counter × (line < 2 ^ 16)
+HasWidths (o.OpenRepeat line) = line < 2 ^ 16
+HasWidths (o.OpenWhile line) = line < 2 ^ 16
+HasWidths (o.Gosub item line) = (item < 2 ^ 32) × (line < 2 ^ 16)
+HasWidths (o.Next counter line) = HasCounterWidth counter × (line < 2 ^ 16)
+HasWidths (o.NextAny line) = line < 2 ^ 16
+HasWidths (o.Until line) = line < 2 ^ 16
+HasWidths (o.EndWhile line) = line < 2 ^ 16
+HasWidths (o.Return line) = line < 2 ^ 16
 HasWidths (o.Raise error line) = (error < 2 ^ 8) × (line < 2 ^ 16)
 HasWidths _ = Unit {0}
 
@@ -53,10 +73,18 @@ HasWidths _ = Unit {0}
 abbrev pub AllHaveWidths : Ir → Type 0
 AllHaveWidths ir = (pc : ℕ) (op : Op) → slice_get ir.ops pc ≡ Some op → HasWidths op
 
--- a jump leaves nothing pending
+-- A jump leaves nothing pending, and nor does what goes on at the item of an open entry.
 abbrev pub LeavesNothing : Ir → ℕ → Op → Type 0
 LeavesNothing ir pc (o.Go item) = height_at ir pc ≡ empty_height
 LeavesNothing ir pc (o.GoIfZero item) = height_at ir (suc pc) ≡ empty_height
+LeavesNothing ir pc (o.GoIfOne item) = height_at ir (suc pc) ≡ one_more empty_height
+LeavesNothing ir pc (o.GosubIfOne item line) = height_at ir (suc pc) ≡ one_more empty_height
+LeavesNothing ir pc (o.Gosub item line) = height_at ir pc ≡ empty_height
+LeavesNothing ir pc (o.Next counter line) = height_at ir pc ≡ empty_height
+LeavesNothing ir pc (o.NextAny line) = height_at ir pc ≡ empty_height
+LeavesNothing ir pc (o.Until line) = height_at ir (suc pc) ≡ empty_height
+LeavesNothing ir pc (o.EndWhile line) = height_at ir pc ≡ empty_height
+LeavesNothing ir pc (o.Return line) = height_at ir pc ≡ empty_height
 LeavesNothing ir pc _ = Unit {0}
 
 -- The operations are those of the items: there is a mark for each item, the first item begins at the first operation, and a jump
