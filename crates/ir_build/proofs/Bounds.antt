@@ -6,18 +6,20 @@ use Rattle.std.proofs.Math.Nat.{mul-le-mul_right, suc-mul}
 use Rattle.bas_ast.specs.declared.program.Prog.{Prog}
 use Rattle.bas_ir.specs.declared.ir.Height.{Height}
 use Rattle.bas_ir.specs.declared.op.Op.{Op}
-use Rattle.bas_ir.specs.Effects.{Effect, Falls, Goes, Enters, effect}
+use Rattle.bas_ir.specs.Effects.{Effect, Falls, Goes, Opens, Enters, effect}
 use Rattle.bas_ir.specs.Heights.{Suffices, height_of, empty_height, with_result, height_after}
-use Rattle.bas_ir.specs.Machine.{at_item, left, entered, follow, thrown_if, thrown, caught, performed, begun, at_op, flat_step}
+use Rattle.bas_ir.specs.Machine.{at_item, left, entered, opened_to, follow, thrown_if, thrown, caught, performed, begun, at_op, flat_step}
 use Rattle.bas_ir.specs.Places.{Pending, nothing, result_pushed, Frame, Place, level_of, item_from, unmarked, front, start_of}
 use Rattle.bas_ir.proofs.EffectHeights.{Leaves, effect_leaves}
 use Rattle.bas_store.specs.Cells.{Value as Content}
-use Rattle.bas_store.specs.Stored.{Handler}
+use Rattle.bas_store.specs.Opened.{can_open, with_opened}
+use Rattle.bas_store.specs.Stored.{Handler, Opening}
 use Rattle.bas_value.specs.Errors.{no_room, error_text}
 use Rattle.bas_sem.specs.State.{State}
-use Rattle.bas_sem.specs.Course.{Course, Value, Raised, Over, Spent, on_value, ◌>>◌, give}
+use Rattle.bas_sem.specs.Course.{Course, Value, Raised, Over, Spent, Action, on_value, ◌>>=◌, ◌>>◌, give}
 use Rattle.bas_sem.specs.Actions.{spend, raised_to, taker, passed, taken, owner_of, place_of}
 use Rattle.bas_sem.specs.Calls.{slots_saved, values_assigned, Kind, Outermost, Procedure, NumberFunction, StringFunction, Body, GoOn, Leave, has_room}
+use Rattle.bas_sem.specs.Loops.{open_if}
 use Rattle.ir_build.specs.Code.{flat_code}
 use Rattle.ir_build.proofs.Sufficiency.{Enough, row_suffices}
 use Rattle.ir_build.proofs.Spots.{Spot, Past, Inside, Begins, spot, front_at_start}
@@ -143,6 +145,23 @@ module _ (prog : Prog) where
       entry_good limit place.frames (record { kind = kind; entry = s.handler; back = suc place.pc; pending = q } ∷ place.frames) body.at s.left
       (record s { stored = values_assigned body.formals values (slots_saved (suc (length place.frames)) body.formals s.stored) }) (follows, suffices) (omega (arith, below))
 
+  no_room_good : (to : Option Handler) (limit : ℕ) (frames : List Frame) (error : ℤ) (text : List ℕ) (line : ℕ) (other : Unit {0} → Action Place) (s : State)
+      → FramesSuffice frames → s.left * all + owed frames < limit → Good limit (caught (flat_code prog) frames ((raised_to to error text line >>= other) s))
+  no_room_good None limit frames error text line other s suffices below = tt
+  no_room_good (Some h) limit frames error text line other s suffices below =
+      thrown_good limit frames h (record s { err = error; erl = line; text = text }) suffices below
+
+  opens_good : (fits : Bool) (limit : ℕ) (place : Place) (line : ℕ) (opening : Opening) (to : Option ℕ) (q : Pending) (s : State) → FramesSuffice place.frames
+      → s.left * all + owed place.frames < limit
+      → ((t : State) → t.left ≡ s.left → Good limit (Value (opened_to (flat_code prog) place to q) t))
+      → Good limit (caught (flat_code prog) place.frames ((open_if fits (length place.frames) line opening (item_from (flat_code prog) (suc place.pc))
+      >> give (opened_to (flat_code prog) place to q)) s))
+  opens_good false limit place line opening to q s suffices below opened =
+      no_room_good (taker (int_eq (pos no_room) (pos 0)) s.handler) limit place.frames (pos no_room) (error_text no_room) line (λ _. give (opened_to (flat_code prog) place to q)) s
+      suffices below
+  opens_good true limit place line opening to q s suffices below opened =
+      opened (record s { stored = with_opened (length place.frames) opening (item_from (flat_code prog) (suc place.pc)) s.stored }) refl
+
   effect_good : (limit n : ℕ) (place : Place) (h : Option Height) (r : Course Effect) → Leaves h n r → Following place h → FramesSuffice place.frames
       → n * all + owed place.frames + length (front (flat_code prog) (suc place.pc)) < limit
       → Good limit (caught (flat_code prog) place.frames (on_value r (follow (flat_code prog) place)))
@@ -152,6 +171,15 @@ module _ (prog : Prog) where
       item_good limit place.frames item s suffices (omega (arith, less_steps s.left n leaves, below))
   effect_good limit n place h (Value (Goes (Leave value)) s) leaves follows suffices below =
       left_good limit place.frames value s suffices (omega (arith, less_steps s.left n leaves, below))
+  effect_good limit n place h (Value (Opens line opening None q) s) leaves follows suffices below =
+      opens_good (can_open s.stored) limit place line opening None q s suffices (omega (arith, less_steps s.left n leaves.1, below))
+      (λ t same. (
+        record { here = subst (Following place) leaves.0 follows; frames = suffices },
+        omega (arith, ap (λ k. k * all) same, less_steps s.left n leaves.1, below),
+      ))
+  effect_good limit n place h (Value (Opens line opening (Some item) q) s) leaves follows suffices below =
+      opens_good (can_open s.stored) limit place line opening (Some item) q s suffices (omega (arith, less_steps s.left n leaves, below))
+      (λ t same. item_good limit place.frames item t suffices (omega (arith, ap (λ k. k * all) same, less_steps s.left n leaves, below)))
   effect_good limit n place h (Value (Enters line kind body values q) s) leaves follows suffices below =
       entered_good (has_room (length place.frames) (length body.formals) s.stored) limit place line kind body values q s
       (subst (Following place) leaves.0 follows) suffices (omega (arith, less_steps s.left n leaves.1, below))

@@ -23,7 +23,7 @@ use Rattle.ir_build.proofs.TableSteps.{codes_both}
 use Rattle.ir_build.proofs.Coded.{at_most_one_text}
 use Rattle.ir_build.proofs.Fits.{worth_all, worth_is, cost, cost_append, push_of, pushes, AllKnown, AllThere, append_there}
 use Rattle.ir_build.proofs.FitLines.{AllLow, low_more, LineFits, run_fits}
-use Rattle.ir_build.proofs.LaidOut.{laid_out}
+use Rattle.ir_build.proofs.LaidOut.{starts_long, laid_out}
 
 -- ---- names and texts are there
 
@@ -71,6 +71,11 @@ one_up_to : (numbers texts : ℕ) → UpTo (numbers + texts + 0) (and_then (with
 one_up_to zero texts = tt
 one_up_to (suc numbers) texts = omega arith
 
+two_less_up_to : (numbers texts : ℕ) → UpTo (numbers + texts + 0) (and_then (without_number numbers texts) one_less)
+two_less_up_to zero texts = tt
+two_less_up_to (suc zero) texts = tt
+two_less_up_to (suc (suc numbers)) texts = omega arith
+
 two_up_to : (numbers texts : ℕ) → UpTo (numbers + texts + 0) (and_then (and_then (without_number numbers texts) one_less) (λ less. Some (one_more less)))
 two_up_to zero texts = tt
 two_up_to (suc zero) texts = tt
@@ -90,6 +95,12 @@ step_up_to (o.WriteNumber padded format) numbers texts = less_up_to numbers text
 step_up_to o.WriteText numbers texts = text_less_up_to numbers texts
 step_up_to (o.Write part) numbers texts = less_up_to numbers texts
 step_up_to (o.GoIfZero item) numbers texts = less_up_to numbers texts
+step_up_to o.Discard numbers texts = less_up_to numbers texts
+step_up_to (o.GoIfOne item) numbers texts = one_up_to numbers texts
+step_up_to (o.GosubIfOne item line) numbers texts = one_up_to numbers texts
+step_up_to (o.RaiseIfOne error line) numbers texts = one_up_to numbers texts
+step_up_to (o.OpenFor counter line) numbers texts = two_less_up_to numbers texts
+step_up_to (o.Until line) numbers texts = less_up_to numbers texts
 step_up_to o.LeaveNumber numbers texts = less_up_to numbers texts
 step_up_to o.LeaveText numbers texts = text_less_up_to numbers texts
 step_up_to _ numbers texts = omega arith
@@ -154,9 +165,9 @@ append_low : (most : ℕ) (xs ys : List (List Op)) → AllLow most xs → AllLow
 append_low most [] ys a b = b
 append_low most (x ∷ xs) ys a b = (a.0, append_low most xs ys a.1 b)
 
-starts_long : (cs : List (List Op)) (lines : List ProgLine) (place : ℕ) → length (line_starts_from cs lines place) ≡ length lines
-starts_long cs [] place = refl
-starts_long cs (line ∷ lines) place = ap suc (starts_long cs lines (place + length line.items))
+line_starts_long : (cs : List (List Op)) (lines : List ProgLine) (place : ℕ) → length (line_starts_from cs lines place) ≡ length lines
+line_starts_long cs [] place = refl
+line_starts_long cs (line ∷ lines) place = ap suc (line_starts_long cs lines (place + length line.items))
 
 lines_long : (names : List Name) (lines : List ProgLine) (symbols : List (List Terminal)) → AreLinesOf names lines symbols → length lines ≡ length symbols
 lines_long names [] [] are = refl
@@ -165,10 +176,10 @@ lines_long names [] (a ∷ rest) are = absurd are
 lines_long names (line ∷ lines) [] are = absurd are
 
 module _ (prog : Prog) where
-  -- The code of the items of lines.
+  -- The code of the items of lines, and a word for each item.
   record LinesFit (symbols : List (List Terminal)) (cs : List (List Op)) : Type 0 where
     there : AllThere prog (joined cs)
-    cheap : cost (joined cs) ≤ worth_lines symbols + 16 * length symbols
+    cheap : cost (joined cs) + 4 * length cs ≤ worth_lines symbols + 20 * length symbols
     low : AllLow most_symbols cs
 
   known : (a : List Terminal) → AllByRecursion (IsNamed prog.names) a → Below (length prog.texts) (literals a) → AllKnown prog a
@@ -181,7 +192,7 @@ module _ (prog : Prog) where
       → LinesFit (a ∷ rest) (own ++ others)
   line_before a rest own others few one more = record {
     there = subst (AllThere prog) (sym (joined_append own others)) (append_there prog (joined own) (joined others) one.there more.there);
-    cheap = omega (arith, one.cheap, more.cheap, cost_append (joined own) (joined others), ap cost (joined_append own others));
+    cheap = omega (arith, one.cheap, more.cheap, cost_append (joined own) (joined others), ap cost (joined_append own others), length-append own others);
     low = append_low most_symbols own others (low_more (length a) most_symbols own few one.low) more.low;
   }
 
@@ -230,7 +241,8 @@ module _ (prog : Prog) where
           all_fit.cheap,
           data_sum prog.data_items,
           worth_sum well.symbols,
-          starts_long (codes prog) prog.lines 0,
+          line_starts_long (codes prog) prog.lines 0,
+          starts_long (codes prog) 0,
           lines_long prog.names prog.lines well.symbols well.lines,
           well.size,
           sum-map (λ (a : List Terminal). 4 + weight a) well.symbols,

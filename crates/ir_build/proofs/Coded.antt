@@ -12,6 +12,8 @@ use Rattle.bas_ast.specs.declared.expressions.UnaryOp.TheVariants as unary
 use Rattle.bas_ast.specs.declared.expressions.Variable.TheVariants as var
 use Rattle.bas_ast.specs.declared.lines.Item.{Item}
 use Rattle.bas_ast.specs.declared.lines.Item.TheVariants as item
+use Rattle.bas_ast.specs.declared.lines.Jump.{Jump}
+use Rattle.bas_ast.specs.declared.lines.Jump.TheVariants as jumps
 use Rattle.bas_ast.specs.declared.program.Prog.{Prog}
 use Rattle.bas_ast.specs.declared.statements.Assignment.{Assignment}
 use Rattle.bas_ast.specs.declared.statements.Assignment.TheVariants as assigns
@@ -33,8 +35,8 @@ use Rattle.bas_ir.specs.declared.op.Piece.TheVariants as pieces
 use Rattle.bas_ir.specs.Heights.{one_more, without_number, one_less, without_text, and_then, empty_height, height_after}
 use Rattle.bas_ir.specs.Coded.{HasCode, AllHaveCode, AtMostOneText}
 use Rattle.bas_store.specs.Cells.{Cell, Resident, Integer, integer_cell}
-use Rattle.bas_sem.specs.Places.{Row, rows, line_place, else_place}
-use Rattle.ir_build.specs.Code.{unary_code, read_op, store_op, expr_code, text_code, assignment_code, go_op, flow_op, print_code, vdu_code, output_code, statement_code, item_code, or_jump, codes_from, codes, joined, heights_of, flat_code}
+use Rattle.bas_sem.specs.Places.{Row, rows, line_place, else_place, on_else, after_endwhile}
+use Rattle.ir_build.specs.Code.{unary_code, read_op, store_op, expr_code, text_code, assignment_code, go_op, gosub_op, counter_of, step_code, nexts_code, next_code, flow_code, choice_op, choices_code, otherwise_op, print_code, vdu_code, output_code, statement_code, item_code, or_jump, codes_from, codes, joined, heights_of, flat_code}
 use Rattle.ir_build.proofs.Residents.{IsOneCell, integer_one}
 
 -- whether a string is pending after an operation, None where the operation may not come
@@ -108,10 +110,38 @@ module _ (prog : Prog) (line : ℕ) where
   go_coded None = (lit≤ tt, tt)
   go_coded (Some place) = (tt, tt)
 
-  flow_coded : (w : Flow) → AreCoded (flow_op prog line w ∷ [])
-  flow_coded (flow.Goto number) = go_coded (line_place prog number)
-  flow_coded flow.Stop = (lit≤ tt, tt)
-  flow_coded _ = (tt, tt)
+  gosub_coded : (to : Option ℕ) → AreCoded (gosub_op to line ∷ [])
+  gosub_coded None = (lit≤ tt, tt)
+  gosub_coded (Some place) = (tt, tt)
+
+  nexts_coded : (names : List ℕ) → AreCoded (nexts_code prog line names)
+  nexts_coded [] = tt
+  nexts_coded (name ∷ names) = (tt, nexts_coded names)
+
+  next_coded : (names : List ℕ) → AreCoded (next_code prog line names)
+  next_coded [] = (tt, tt)
+  next_coded (name ∷ names) = nexts_coded (name ∷ names)
+
+  step_coded : (z : Option NumExpr) (ops : List Op) → AreCoded ops → AreCoded (step_code prog line z ++ ops)
+  step_coded None ops coded = (tt, coded)
+  step_coded (Some x) ops coded = expr_coded x ops coded
+
+  flow_coded : (place : ℕ) (w : Flow) → AreCoded (flow_code prog place line w)
+  flow_coded place (flow.Goto number) = go_coded (line_place prog number)
+  flow_coded place (flow.Gosub number) = gosub_coded (line_place prog number)
+  flow_coded place flow.Return = (tt, tt)
+  flow_coded place (flow.For name x y z) =
+      let opens : List Op = o.OpenFor (counter_of (integer_cell prog.names name)) line ∷ [] in
+      let limit : List Op = expr_code prog line y ++ (step_code prog line z ++ opens) in
+      expr_coded x (store_op (integer_cell prog.names name) ∷ limit)
+      (store_coded (integer_cell prog.names name) limit (integer_one prog.names name) (expr_coded y (step_code prog line z ++ opens) (step_coded z opens (tt, tt))))
+  flow_coded place (flow.Next names) = next_coded names
+  flow_coded place (flow.Until x) = expr_coded x (o.Until line ∷ []) (tt, tt)
+  flow_coded place (flow.While x) = expr_coded x (o.GoIfZero (after_endwhile prog place) ∷ o.OpenWhile line ∷ []) (tt, (tt, tt))
+  flow_coded place flow.EndWhile = (tt, tt)
+  flow_coded place flow.End = (tt, tt)
+  flow_coded place flow.Stop = (lit≤ tt, tt)
+  flow_coded place flow.Quit = (tt, tt)
 
   print_coded : (padded new_line : Bool) (parts : List PrintPart) → AreCoded (print_code prog line padded new_line parts)
   unfolding print_code
@@ -139,15 +169,33 @@ module _ (prog : Prog) (line : ℕ) where
   output_coded (writes.Colour x) = expr_coded x (o.Write pieces.Colour ∷ []) (tt, tt)
   output_coded writes.Cls = (tt, tt)
 
-  statement_coded : (x : Stmt) → AreCoded (statement_code prog line x)
-  statement_coded (stmt.Assign a) = assignment_coded a
-  statement_coded (stmt.Flow w) = flow_coded w
-  statement_coded (stmt.Output w) = output_coded w
-  statement_coded _ = (tt, tt)
+  statement_coded : (place : ℕ) (x : Stmt) → AreCoded (statement_code prog place line x)
+  statement_coded place (stmt.Assign a) = assignment_coded a
+  statement_coded place (stmt.Flow w) = flow_coded place w
+  statement_coded place (stmt.Output w) = output_coded w
+  statement_coded place _ = (tt, tt)
+
+  choice_coded : (jump : Jump) (to : Option ℕ) (ops : List Op) → AreCoded ops → AreCoded (choice_op jump to line ∷ ops)
+  choice_coded jump None ops coded = (lit≤ tt, coded)
+  choice_coded jumps.Goto (Some place) ops coded = (tt, coded)
+  choice_coded jumps.Gosub (Some place) ops coded = (tt, coded)
+
+  choices_coded : (jump : Jump) (numbers : List ℕ) (ops : List Op) → AreCoded ops → AreCoded (choices_code prog line jump numbers ++ ops)
+  choices_coded jump [] ops coded = coded
+  choices_coded jump (number ∷ numbers) ops coded =
+      choice_coded jump (line_place prog number) (choices_code prog line jump numbers ++ ops) (choices_coded jump numbers ops coded)
+
+  otherwise_coded : (to : Option ℕ) → AreCoded (otherwise_op to line ∷ [])
+  otherwise_coded None = (lit≤ tt, tt)
+  otherwise_coded (Some place) = (tt, tt)
 
   item_coded : (place : ℕ) (i : Item) → AreCoded (item_code prog place line i)
-  item_coded place (item.Stmt x) = statement_coded x
+  item_coded place (item.Stmt x) = statement_coded place x
   item_coded place (item.If x) = expr_coded x (o.GoIfZero (else_place prog place) ∷ []) (tt, tt)
+  item_coded place (item.On x jump numbers) =
+      let otherwise : List Op = o.Discard ∷ otherwise_op (on_else prog place) line ∷ [] in
+      expr_coded x (choices_code prog line jump numbers ++ otherwise) (choices_coded jump numbers otherwise (tt, otherwise_coded (on_else prog place)))
+  item_coded place item.Repeat = (tt, tt)
   item_coded place item.Else = (tt, tt)
   item_coded place item.Remark = tt
   item_coded place _ = (tt, tt)
@@ -211,6 +259,11 @@ one_for_two_has b zero texts is = tt
 one_for_two_has b (suc zero) texts is = tt
 one_for_two_has b (suc (suc numbers)) texts is = is
 
+two_less_has : (b : Bool) (numbers texts : ℕ) → texts ≡ text_number b → HasTexts (Some b) (and_then (without_number numbers texts) one_less)
+two_less_has b zero texts is = tt
+two_less_has b (suc zero) texts is = tt
+two_less_has b (suc (suc numbers)) texts is = is
+
 text_written_has : (numbers texts : ℕ) → texts ≡ 1 → HasTexts (Some false) (without_text numbers texts)
 text_written_has numbers zero is = tt
 text_written_has numbers (suc texts) is = omega (arith, is)
@@ -232,6 +285,19 @@ step_has false (o.Write part) numbers texts is has = without_has false numbers t
 step_has false (o.WriteMark part) numbers texts is has = is
 step_has false (o.Go item) numbers texts is has = is
 step_has false (o.GoIfZero item) numbers texts is has = without_has false numbers texts is
+step_has false o.Discard numbers texts is has = without_has false numbers texts is
+step_has false (o.GoIfOne item) numbers texts is has = one_for_one_has false numbers texts is
+step_has false (o.GosubIfOne item line) numbers texts is has = one_for_one_has false numbers texts is
+step_has false (o.RaiseIfOne error line) numbers texts is has = one_for_one_has false numbers texts is
+step_has false (o.OpenFor counter line) numbers texts is has = two_less_has false numbers texts is
+step_has false (o.OpenRepeat line) numbers texts is has = is
+step_has false (o.OpenWhile line) numbers texts is has = is
+step_has false (o.Gosub item line) numbers texts is has = is
+step_has false (o.Next counter line) numbers texts is has = is
+step_has false (o.NextAny line) numbers texts is has = is
+step_has false (o.Until line) numbers texts is has = without_has false numbers texts is
+step_has false (o.EndWhile line) numbers texts is has = is
+step_has false (o.Return line) numbers texts is has = is
 step_has false (o.Raise error line) numbers texts is has = is
 step_has false o.End numbers texts is has = is
 step_has false (o.Enter kind routine line) numbers texts is has = absurd has

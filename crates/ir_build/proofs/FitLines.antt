@@ -1,20 +1,24 @@
 -- The code of a line's items fits the terminals that spell them out.
-use Rattle.std.proofs.Common.{◌≡◌, ℕ, ◌+◌, ◌≤◌, List, [], ◌∷◌, ◌++◌, refl, length, length-append, map, lit≤, arith}
+use Rattle.std.proofs.Common.{◌≡◌, ℕ, ◌+◌, ◌*◌, ◌≤◌, List, [], ◌∷◌, ◌++◌, Option, None, Some, refl, ap, subst, append_assoc, length, length-append, map, lit≤, arith}
 use Rattle.bas_ast.specs.declared.expressions.NumExpr.{NumExpr}
 use Rattle.bas_ast.specs.declared.keywords.Keyword.TheVariants as word
 use Rattle.bas_ast.specs.declared.lines.Item.{Item}
 use Rattle.bas_ast.specs.declared.lines.Item.TheVariants as item
+use Rattle.bas_ast.specs.declared.lines.Jump.{Jump}
+use Rattle.bas_ast.specs.declared.lines.Jump.TheVariants as jumps
 use Rattle.bas_ast.specs.declared.program.Prog.{Prog}
 use Rattle.bas_ast.specs.declared.terminals.Terminal.{Terminal}
 use Rattle.bas_ast.specs.declared.terminals.Terminal.TheVariants as t
 use Rattle.bas_ast.specs.Expressions.{IsNum}
 use Rattle.bas_ast.specs.Lines as l
+use Rattle.bas_ast.specs.Operands as g
+use Rattle.bas_ast.specs.Operands.{IsLineRef, ALine, IsList}
 use Rattle.bas_ast.specs.Lines.{Here, IsItems, IsBranch, IsRun}
 use Rattle.bas_ir.specs.declared.op.Op.{Op}
 use Rattle.bas_ir.specs.declared.op.Op.TheVariants as o
-use Rattle.bas_sem.specs.Places.{else_place}
-use Rattle.ir_build.specs.Code.{expr_code, item_code, or_jump, codes_from, joined}
-use Rattle.ir_build.proofs.Fits.{worth, worth_all, worth_append, cost, cost_append, pushes, AllKnown, AllThere, append_there, Fits, then_ops, after, front_known, back_known}
+use Rattle.bas_sem.specs.Places.{else_place, on_else, line_place}
+use Rattle.ir_build.specs.Code.{expr_code, choice_op, choices_code, otherwise_op, on_code, item_code, or_jump, codes_from, joined}
+use Rattle.ir_build.proofs.Fits.{worth, worth_all, worth_append, cost, cost_append, pushes, AllKnown, AllThere, append_there, Fits, beside, then_ops, after, front_known, back_known}
 use Rattle.ir_build.proofs.FitExpressions.{num_fits}
 use Rattle.ir_build.proofs.FitStatements.{goto_fits, statement_fits}
 
@@ -28,10 +32,10 @@ low_more few most [] less low = tt
 low_more few most (c ∷ cs) less low = (omega (arith, less, low.0), low_more few most cs less low.1)
 
 module _ (prog : Prog) where
-  -- The code of the items of a line. DATA, of which a line has at most one, is worth nothing, and costs 16.
+  -- The code of the items of a line, and a word for each. DATA, of which a line has at most one, is worth nothing, and costs 20.
   pub record LineFits (a : List Terminal) (cs : List (List Op)) : Type 0 where
     pub there : AllThere prog (joined cs)
-    pub cheap : cost (joined cs) ≤ worth_all a + 16
+    pub cheap : cost (joined cs) + 4 * length cs ≤ worth_all a + 20
     pub low : AllLow (length a) cs
 
   no_items_fit : LineFits [] []
@@ -54,12 +58,12 @@ module _ (prog : Prog) where
   spare_fits : (a : List Terminal) → LineFits a []
   spare_fits a = record { there = tt; cheap = omega arith; low = tt }
 
-  jump_fits : (a : List Terminal) (next : ℕ) (ops : List Op) → Fits prog 0 8 a ops → Fits prog 0 0 a (or_jump next ops)
+  jump_fits : (a : List Terminal) (next : ℕ) (ops : List Op) → Fits prog 0 12 a ops → Fits prog 0 4 a (or_jump next ops)
   jump_fits a next [] fits = record { there = (tt, tt); cheap = omega (arith, fits.cheap); low = omega arith }
   jump_fits a next (op ∷ ops) fits = record { there = fits.there; cheap = omega (arith, fits.cheap); low = fits.low }
 
   -- with an item before
-  item_before : {a r : List Terminal} {ops : List Op} {cs : List (List Op)} (next : ℕ) → Fits prog 0 8 a ops → LineFits r cs → LineFits (a ++ r) (or_jump next ops ∷ cs)
+  item_before : {a r : List Terminal} {ops : List Op} {cs : List (List Op)} (next : ℕ) → Fits prog 0 12 a ops → LineFits r cs → LineFits (a ++ r) (or_jump next ops ∷ cs)
   item_before {a} {r} {ops} {cs} next own rest =
       let first = jump_fits a next ops own in
       record {
@@ -71,7 +75,7 @@ module _ (prog : Prog) where
   -- with an item before that ends the run
   end_before : {a : List Terminal} {cs : List (List Op)} (c : Terminal) (next : ℕ) → worth c ≡ 96 → LineFits a cs → LineFits (c ∷ a) (or_jump next (o.End ∷ []) ∷ cs)
   end_before {a} {cs} c next worthy rest =
-      let own : Fits prog 0 8 (c ∷ []) (o.End ∷ []) = record { there = (tt, tt); cheap = omega (arith, worthy); low = lit≤ tt } in
+      let own : Fits prog 0 12 (c ∷ []) (o.End ∷ []) = record { there = (tt, tt); cheap = omega (arith, worthy); low = lit≤ tt } in
       item_before next own rest
 
   module _ (line : ℕ) where
@@ -79,13 +83,60 @@ module _ (prog : Prog) where
     abbrev line_codes : ℕ → List Item → List (List Op)
     line_codes place xs = codes_from prog place (map (λ i. record { line = line; item = i }) xs)
 
-    if_fits : (a : List Terminal) (x : NumExpr) (place : ℕ) → IsNum 1 a x → AllKnown prog a → Fits prog 0 8 (t.Keyword word.If ∷ a) (item_code prog place line (item.If x))
+    if_fits : (a : List Terminal) (x : NumExpr) (place : ℕ) → IsNum 1 a x → AllKnown prog a → Fits prog 0 12 (t.Keyword word.If ∷ a) (item_code prog place line (item.If x))
     if_fits a x place d known =
         let value : Fits prog 0 144 (t.Keyword word.If ∷ a) (expr_code prog line x) = after (t.Keyword word.If) (num_fits prog line 1 a x d known) (lit≤ tt) in
         then_ops (o.GoIfZero (else_place prog place) ∷ []) value (tt, tt) refl (lit≤ tt)
 
-    else_fits : (place : ℕ) → Fits prog 0 8 (t.Keyword word.Else ∷ []) (item_code prog place line item.Else)
+    else_fits : (place : ℕ) → Fits prog 0 12 (t.Keyword word.Else ∷ []) (item_code prog place line item.Else)
     else_fits place = record { there = (tt, tt); cheap = lit≤ tt; low = lit≤ tt }
+
+    -- ---- ON
+
+    choice_fits : (n : ℕ) (jump : Jump) (to : Option ℕ) → Fits prog 0 0 (t.LineRef n ∷ []) (choice_op jump to line ∷ [])
+    choice_fits n jump None = record { there = (tt, tt); cheap = lit≤ tt; low = lit≤ tt }
+    choice_fits n jumps.Goto (Some to) = record { there = (tt, tt); cheap = lit≤ tt; low = lit≤ tt }
+    choice_fits n jumps.Gosub (Some to) = record { there = (tt, tt); cheap = lit≤ tt; low = lit≤ tt }
+
+    line_fits : (a : List Terminal) (n : ℕ) (jump : Jump) → IsLineRef a n → Fits prog 0 0 a (choice_op jump (line_place prog n) line ∷ [])
+    line_fits a n jump (g.line_ref _) = choice_fits n jump (line_place prog n)
+
+    choices_fit : (a : List Terminal) (ns : List ℕ) (jump : Jump) → IsList ALine a ns → Fits prog 0 0 a (choices_code prog line jump ns)
+    choices_fit a ns jump (g.last_of_list _ n d) = line_fits a n jump d
+    choices_fit a ns jump (g.more_of_list a' b n rest d d') =
+        beside (line_fits a' n jump d) (after {D = 0} {S = 0} t.Comma (choices_fit b rest jump d') (lit≤ tt)) (lit≤ tt)
+
+    otherwise_there : (to : Option ℕ) → AllThere prog (o.Discard ∷ otherwise_op to line ∷ [])
+    otherwise_there None = (tt, (tt, tt))
+    otherwise_there (Some to) = (tt, (tt, tt))
+
+    otherwise_pushes : (to : Option ℕ) → pushes (o.Discard ∷ otherwise_op to line ∷ []) ≡ 0
+    otherwise_pushes None = refl
+    otherwise_pushes (Some to) = refl
+
+    otherwise_cost : (to : Option ℕ) → cost (o.Discard ∷ otherwise_op to line ∷ []) ≤ 56
+    otherwise_cost None = lit≤ tt
+    otherwise_cost (Some to) = lit≤ tt
+
+    on_fits : (c : Terminal) (a b : List Terminal) (x : NumExpr) (jump : Jump) (ns : List ℕ) (place : ℕ) → worth c ≡ 96 → IsNum 1 a x → IsList ALine b ns → AllKnown prog a
+        → Fits prog 0 12 (t.Keyword word.On ∷ (a ++ c ∷ b)) (on_code prog place line x jump ns)
+    on_fits c a b x jump ns place worthy d d' known =
+        let to : Option ℕ = on_else prog place in
+        let otherwise : List Op = o.Discard ∷ otherwise_op to line ∷ [] in
+        let lines : Fits prog 56 0 b (choices_code prog line jump ns ++ otherwise) =
+        then_ops otherwise (choices_fit b ns jump d') (otherwise_there to) (otherwise_pushes to) (omega (arith, otherwise_cost to)) in
+        let led : Fits prog 0 40 (c ∷ b) (choices_code prog line jump ns ++ otherwise) = after c lines (omega (arith, worthy)) in
+        after (t.Keyword word.On) (beside {D = 0} {S = 0} (num_fits prog line 1 a x d known) led (lit≤ tt)) (lit≤ tt)
+
+    -- ON, and the items after it
+    on_before : (c : Terminal) (a b r : List Terminal) (cs : List (List Op)) (x : NumExpr) (jump : Jump) (ns : List ℕ) (place : ℕ) → worth c ≡ 96 → IsNum 1 a x → IsList ALine b ns
+        → AllKnown prog a → LineFits r cs → LineFits (t.Keyword word.On ∷ (a ++ c ∷ (b ++ r))) (or_jump (place + 1) (on_code prog place line x jump ns) ∷ cs)
+    on_before c a b r cs x jump ns place worthy d d' known rest =
+        subst (λ l. LineFits l (or_jump (place + 1) (on_code prog place line x jump ns) ∷ cs)) (ap (λ l. t.Keyword word.On ∷ l) (append_assoc a (c ∷ b) r))
+        (item_before (place + 1) (on_fits c a b x jump ns place worthy d d' known) rest)
+
+    repeat_fits : (place : ℕ) → Fits prog 0 12 (t.Keyword word.Repeat ∷ []) (item_code prog place line item.Repeat)
+    repeat_fits place = record { there = (tt, tt); cheap = lit≤ tt; low = lit≤ tt }
 
     data_fits : (n place : ℕ) → LineFits (t.Keyword word.Data ∷ t.Tail n ∷ []) (line_codes place (item.Data n ∷ []))
     data_fits n place = record { there = (tt, tt); cheap = lit≤ tt; low = (lit≤ tt, tt) }
@@ -98,7 +149,7 @@ module _ (prog : Prog) where
       items_fit h a xs (l.no_items _) known place = no_items_fit
       items_fit h a xs (l.colon _ r _ d) known place = line_after t.Colon (items_fit _ r xs d known.1 place)
       items_fit h a xs (l.plain _ b r x ys k k' d d') known place =
-          item_before (place + 1) (statement_fits prog line b x d (front_known prog b r known)) (items_fit _ r ys d' (back_known prog b r known) (place + 1))
+          item_before (place + 1) (statement_fits prog place line b x d (front_known prog b r known)) (items_fit _ r ys d' (back_known prog b r known) (place + 1))
       items_fit h a xs (l.if_bare _ b r x ys k d d') known place =
           item_before (place + 1) (if_fits b x place d (front_known prog b r known.1)) (items_fit _ r ys d' (back_known prog b r known.1) (place + 1))
       items_fit h a xs (l.if_then _ b r x ys k d k' d') known place =
@@ -106,14 +157,14 @@ module _ (prog : Prog) where
           (line_after (t.Keyword word.Then) (branch_fits r ys d' (back_known prog b (t.Keyword word.Then ∷ r) known.1).1 (place + 1)))
       items_fit h a xs (l.if_block _ b x k d) known place = end_before (t.Keyword word.If) (place + 1) refl (spare_fits (b ++ t.Keyword word.Then ∷ []))
       items_fit h a xs (l.else _ r ys k d) known place = item_before (place + 1) (else_fits place) (branch_fits r ys d known.1 (place + 1))
-      items_fit h a xs (l.on_goto _ b b' r x ns ys k d k' d') known place =
+      items_fit h a xs (l.on_goto _ b b' r x ns ys k d d2 d') known place =
           let rest = items_fit _ r ys d' (back_known prog b' r (back_known prog b (t.Keyword word.Goto ∷ (b' ++ r)) known.1).1) (place + 1) in
-          end_before (t.Keyword word.On) (place + 1) refl (line_later b (line_after (t.Keyword word.Goto) (line_later b' rest)))
-      items_fit h a xs (l.on_gosub _ b b' r x ns ys k d k' d') known place =
+          on_before (t.Keyword word.Goto) b b' r _ x jumps.Goto ns place refl d d2 (front_known prog b (t.Keyword word.Goto ∷ (b' ++ r)) known.1) rest
+      items_fit h a xs (l.on_gosub _ b b' r x ns ys k d d2 d') known place =
           let rest = items_fit _ r ys d' (back_known prog b' r (back_known prog b (t.Keyword word.Gosub ∷ (b' ++ r)) known.1).1) (place + 1) in
-          end_before (t.Keyword word.On) (place + 1) refl (line_later b (line_after (t.Keyword word.Gosub) (line_later b' rest)))
+          on_before (t.Keyword word.Gosub) b b' r _ x jumps.Gosub ns place refl d d2 (front_known prog b (t.Keyword word.Gosub ∷ (b' ++ r)) known.1) rest
       items_fit h a xs (l.case _ b r x k d k') known place = end_before (t.Keyword word.Case) (place + 1) refl (spare_fits (b ++ t.Keyword word.Of ∷ r))
-      items_fit h a xs (l.repeat _ r ys k d) known place = end_before (t.Keyword word.Repeat) (place + 1) refl (items_fit _ r ys d known.1 (place + 1))
+      items_fit h a xs (l.repeat _ r ys k d) known place = item_before (place + 1) (repeat_fits place) (items_fit _ r ys d known.1 (place + 1))
       items_fit h a xs (l.on_error _ r ys k d) known place =
           end_before (t.Keyword word.On) (place + 1) refl (line_after (t.Keyword word.Error) (items_fit _ r ys d known.1.1 (place + 1)))
       items_fit h a xs (l.on_error_local _ r ys k d) known place =
@@ -126,7 +177,7 @@ module _ (prog : Prog) where
       branch_fits : (a : List Terminal) (xs : List Item) → IsBranch a xs → AllKnown prog a → (place : ℕ) → LineFits a (line_codes place xs)
       branch_fits a xs (l.branch_items _ _ d) known place = items_fit _ a xs d known place
       branch_fits a xs (l.branch_line n r ys d) known place =
-          item_before (place + 1) (goto_fits prog line (t.LineRef n) [] n refl) (items_fit _ r ys d known.1 (place + 1))
+          item_before (place + 1) (goto_fits prog place line (t.LineRef n) [] n refl) (items_fit _ r ys d known.1 (place + 1))
 
     pub run_fits : (a : List Terminal) (xs : List Item) → IsRun a xs → AllKnown prog a → (place : ℕ) → LineFits a (line_codes place xs)
     run_fits a xs (l.items _ _ d) known place = items_fit _ a xs d known place

@@ -1,4 +1,4 @@
--- The code of a statement fits the terminals that spell it out, and leaves room for a jump.
+-- The code of a statement fits the terminals that spell it out, and spares 12 bytes: 8 for a jump, and 4 for the branch to its item.
 use Rattle.std.proofs.Common.{◌≡◌, ℕ, ◌≤◌, List, [], ◌∷◌, ◌++◌, Option, None, Some, refl, subst, lit≤, arith}
 use Rattle.std.specs.Prelude.{Bool, true, false}
 use Rattle.bas_ast.specs.declared.expressions.BinaryOp.{BinaryOp}
@@ -21,41 +21,42 @@ use Rattle.bas_ast.specs.declared.terminals.Terminal.TheVariants as t
 use Rattle.bas_ast.specs.Expressions as e
 use Rattle.bas_ast.specs.Expressions.{IsNum, IsStr}
 use Rattle.bas_ast.specs.Operands as g
-use Rattle.bas_ast.specs.Operands.{IsNumTarget, Slot, ANumber, Values, ValueOf, IsOperands, IsList}
+use Rattle.bas_ast.specs.Operands.{IsNumTarget, IsIntName, Slot, ANumber, Values, ValueOf, AnIntName, IsOperands, IsList}
 use Rattle.bas_ast.specs.Statements as s
 use Rattle.bas_ast.specs.Statements.{Form, Takes, Lists, OwnForm, form, equals, IsPrint, IsVdu, IsAssignment, IsStmt}
+use Rattle.bas_ir.specs.WellFormed.{IsCounter}
 use Rattle.bas_ir.specs.declared.op.Mark.TheVariants as marks
 use Rattle.bas_ir.specs.declared.op.Op.{Op}
 use Rattle.bas_ir.specs.declared.op.Op.TheVariants as o
 use Rattle.bas_ir.specs.declared.op.Piece.TheVariants as pieces
-use Rattle.bas_sem.specs.Places.{line_place}
-use Rattle.bas_store.specs.Cells.{Cell, integer_cell}
-use Rattle.ir_build.specs.Code.{read_op, store_op, expr_code, assignment_code, go_op, finish_code, print_code, vdu_code, statement_code}
-use Rattle.ir_build.proofs.Fits.{worth, cost, pushes, AllKnown, AllThere, Fits, around, beside, then_ops, after, before, stops, stops_between, front_known, back_known}
+use Rattle.bas_sem.specs.Places.{after_endwhile, line_place}
+use Rattle.bas_store.specs.Cells.{Cell, Resident, Integer, integer_cell}
+use Rattle.ir_build.specs.Code.{read_op, store_op, expr_code, assignment_code, go_op, gosub_op, counter_of, step_code, for_code, nexts_code, next_code, finish_code, flat_code, print_code, vdu_code, statement_code}
+use Rattle.ir_build.proofs.Fits.{worth, cost, pushes, AllKnown, AllThere, Fits, around, beside, then_ops, after, before, within, stops, stops_between, front_known, back_known}
 use Rattle.ir_build.proofs.FitExpressions.{IsCell, cell_of, read_fits, store_there, store_cost, store_pushes, num_fits, text_fits}
 
-module _ (prog : Prog) (line : ℕ) where
+module _ (prog : Prog) (place line : ℕ) where
   -- less is spared
-  fewer : {a : List Terminal} {ops : List Op} → Fits prog 0 64 a ops → Fits prog 0 8 a ops
+  fewer : {a : List Terminal} {ops : List Op} → Fits prog 0 64 a ops → Fits prog 0 12 a ops
   fewer {a} {ops} fits = record { there = fits.there; cheap = omega (arith, fits.cheap); low = fits.low }
 
-  ends : (c : Terminal) (a : List Terminal) → 88 ≤ worth c → Fits prog 0 8 (c ∷ a) (o.End ∷ [])
+  ends : (c : Terminal) (a : List Terminal) → 88 ≤ worth c → Fits prog 0 12 (c ∷ a) (o.End ∷ [])
   ends c a worthy = fewer (stops c a worthy)
 
-  ends_between : (a : List Terminal) (c : Terminal) (b : List Terminal) → 88 ≤ worth c → Fits prog 0 8 (a ++ c ∷ b) (o.End ∷ [])
+  ends_between : (a : List Terminal) (c : Terminal) (b : List Terminal) → 88 ≤ worth c → Fits prog 0 12 (a ++ c ∷ b) (o.End ∷ [])
   ends_between a c b worthy = fewer (stops_between a c b worthy)
 
   -- ---- assignments
 
   stored_fits : (n : ℕ) (b : List Terminal) (cell : Cell) (x : NumExpr) → IsCell prog line cell → IsNum 1 b x → AllKnown prog b
-      → Fits prog 0 8 (t.IntName n ∷ equals ∷ b) (expr_code prog line x ++ store_op cell ∷ [])
+      → Fits prog 0 12 (t.IntName n ∷ equals ∷ b) (expr_code prog line x ++ store_op cell ∷ [])
   stored_fits n b cell x known d all =
       let value : Fits prog 0 144 (equals ∷ b) (expr_code prog line x) = after equals (num_fits prog line 1 b x d all) (lit≤ tt) in
       then_ops (store_op cell ∷ []) (after {D = 0} {S = 240} (t.IntName n) value (lit≤ tt)) (store_there prog line cell known) (store_pushes prog line cell)
       (omega (arith, store_cost prog line cell))
 
   updated_fits : (op : BinaryOp) (n : ℕ) (c : Terminal) (b : List Terminal) (cell : Cell) (x : NumExpr) → worth c ≡ 96 → IsCell prog line cell → IsNum 1 b x → AllKnown prog b
-      → Fits prog 0 8 (t.IntName n ∷ c ∷ b) (read_op line cell ∷ (expr_code prog line x ++ o.Binary op line ∷ store_op cell ∷ []))
+      → Fits prog 0 12 (t.IntName n ∷ c ∷ b) (read_op line cell ∷ (expr_code prog line x ++ o.Binary op line ∷ store_op cell ∷ []))
   updated_fits op n c b cell x worthy known d all =
       let value : Fits prog 0 144 (c ∷ b) (expr_code prog line x) = after c (num_fits prog line 1 b x d all) (omega (arith, worthy)) in
       let both : Fits prog 0 192 (t.IntName n ∷ c ∷ b) (read_op line cell ∷ expr_code prog line x) = beside (read_fits prog line n cell known) value (lit≤ tt) in
@@ -66,14 +67,14 @@ module _ (prog : Prog) (line : ℕ) where
       binary_pushes is = omega (arith, is)
 
   assign_fits : (a b : List Terminal) (v : NumTarget) (x : NumExpr) → IsNumTarget a v → IsNum 1 b x → AllKnown prog (a ++ equals ∷ b)
-      → Fits prog 0 8 (a ++ equals ∷ b) (assignment_code prog line (assignment.Number v x))
+      → Fits prog 0 12 (a ++ equals ∷ b) (assignment_code prog line (assignment.Number v x))
   assign_fits a b v x (g.to_variable _ w (e.simple n)) d known = stored_fits n b (integer_cell prog.names n) x (cell_of prog line n known.0) d known.1.1
   assign_fits a b v x (g.to_variable _ w (e.element n a' xs k)) d known = ends_between a equals b (lit≤ tt)
   assign_fits a b v x (g.to_memory w a' y k) d known = ends_between a equals b (lit≤ tt)
   assign_fits a b v x (g.to_memory_sum a' b' u w y k k') d known = ends_between a equals b (lit≤ tt)
 
   add_fits : (a b : List Terminal) (v : NumTarget) (x : NumExpr) → IsNumTarget a v → IsNum 1 b x → AllKnown prog (a ++ t.PlusEquals ∷ b)
-      → Fits prog 0 8 (a ++ t.PlusEquals ∷ b) (assignment_code prog line (assignment.Add v x))
+      → Fits prog 0 12 (a ++ t.PlusEquals ∷ b) (assignment_code prog line (assignment.Add v x))
   add_fits a b v x (g.to_variable _ w (e.simple n)) d known =
       updated_fits op.Add n t.PlusEquals b (integer_cell prog.names n) x refl (cell_of prog line n known.0) d known.1.1
   add_fits a b v x (g.to_variable _ w (e.element n a' xs k)) d known = ends_between a t.PlusEquals b (lit≤ tt)
@@ -81,14 +82,14 @@ module _ (prog : Prog) (line : ℕ) where
   add_fits a b v x (g.to_memory_sum a' b' u w y k k') d known = ends_between a t.PlusEquals b (lit≤ tt)
 
   subtract_fits : (a b : List Terminal) (v : NumTarget) (x : NumExpr) → IsNumTarget a v → IsNum 1 b x → AllKnown prog (a ++ t.MinusEquals ∷ b)
-      → Fits prog 0 8 (a ++ t.MinusEquals ∷ b) (assignment_code prog line (assignment.Subtract v x))
+      → Fits prog 0 12 (a ++ t.MinusEquals ∷ b) (assignment_code prog line (assignment.Subtract v x))
   subtract_fits a b v x (g.to_variable _ w (e.simple n)) d known =
       updated_fits op.Subtract n t.MinusEquals b (integer_cell prog.names n) x refl (cell_of prog line n known.0) d known.1.1
   subtract_fits a b v x (g.to_variable _ w (e.element n a' xs k)) d known = ends_between a t.MinusEquals b (lit≤ tt)
   subtract_fits a b v x (g.to_memory w a' y k) d known = ends_between a t.MinusEquals b (lit≤ tt)
   subtract_fits a b v x (g.to_memory_sum a' b' u w y k k') d known = ends_between a t.MinusEquals b (lit≤ tt)
 
-  assignment_fits : (a : List Terminal) (x : Assignment) → IsAssignment a x → AllKnown prog a → Fits prog 0 8 a (assignment_code prog line x)
+  assignment_fits : (a : List Terminal) (x : Assignment) → IsAssignment a x → AllKnown prog a → Fits prog 0 12 a (assignment_code prog line x)
   assignment_fits a x (s.assign_number a' b v y d d') known = assign_fits a' b v y d d' known
   assignment_fits a x (s.assign_text a' b v y d d') known = ends_between a' equals b (lit≤ tt)
 
@@ -152,35 +153,97 @@ module _ (prog : Prog) (line : ℕ) where
 
   -- ---- statements
 
-  go_fits : (c : Terminal) (a : List Terminal) (to : Option ℕ) → worth c ≡ 96 → Fits prog 0 8 (c ∷ a) (go_op to line ∷ [])
+  go_fits : (c : Terminal) (a : List Terminal) (to : Option ℕ) → worth c ≡ 96 → Fits prog 0 12 (c ∷ a) (go_op to line ∷ [])
   go_fits c a None worthy = record { there = (tt, tt); cheap = omega (arith, worthy); low = omega arith }
   go_fits c a (Some place) worthy = record { there = (tt, tt); cheap = omega (arith, worthy); low = omega arith }
 
-  pub goto_fits : (c : Terminal) (a : List Terminal) (number : ℕ) → worth c ≡ 96 → Fits prog 0 8 (c ∷ a) (statement_code prog line (stmt.Flow (flow.Goto number)))
+  pub goto_fits : (c : Terminal) (a : List Terminal) (number : ℕ) → worth c ≡ 96 → Fits prog 0 12 (c ∷ a) (statement_code prog place line (stmt.Flow (flow.Goto number)))
   goto_fits c a number worthy = go_fits c a (line_place prog number) worthy
+
+  gosub_fits : (c : Terminal) (a : List Terminal) (to : Option ℕ) → worth c ≡ 96 → Fits prog 0 12 (c ∷ a) (gosub_op to line ∷ [])
+  gosub_fits c a None worthy = record { there = (tt, tt); cheap = omega (arith, worthy); low = omega arith }
+  gosub_fits c a (Some to) worthy = record { there = (tt, tt); cheap = omega (arith, worthy); low = omega arith }
 
   the_number : (a : List Terminal) (vs : Values (ANumber ∷ [])) → IsOperands (ANumber ∷ []) a vs → IsNum 1 a vs.0
   the_number a vs (g.last_operand _ _ v d) = d
 
-  written_fits : (c : Keyword) (a : List Terminal) (vs : Values (ANumber ∷ [])) (op : Op) → worth (t.Keyword c) ≡ 96 → IsOperands (ANumber ∷ []) a vs → AllKnown prog a
-      → AllThere prog (op ∷ []) → pushes (op ∷ []) ≡ 0 → cost (op ∷ []) ≤ 48 → Fits prog 0 8 (t.Keyword c ∷ a) (expr_code prog line vs.0 ++ op ∷ [])
-  written_fits c a vs op worthy d known there none cheap =
+  -- an expression, and operations that take its value
+  valued_fits : (c : Keyword) (a : List Terminal) (vs : Values (ANumber ∷ [])) (ops : List Op) → worth (t.Keyword c) ≡ 96 → IsOperands (ANumber ∷ []) a vs → AllKnown prog a
+      → AllThere prog ops → pushes ops ≡ 0 → cost ops ≤ 132 → Fits prog 0 12 (t.Keyword c ∷ a) (expr_code prog line vs.0 ++ ops)
+  valued_fits c a vs ops worthy d known there none cheap =
       let value : Fits prog 0 144 (t.Keyword c ∷ a) (expr_code prog line vs.0) = after (t.Keyword c) (num_fits prog line 1 a vs.0 (the_number a vs d) known) (omega (arith, worthy)) in
-      then_ops (op ∷ []) value there none (omega (arith, cheap))
+      then_ops ops value there none (omega (arith, cheap))
+
+  -- ---- FOR and NEXT
+
+  counter_there : (cell : Cell) → IsCell prog line cell → IsCounter (flat_code prog) (counter_of cell)
+  counter_there (Resident index) known = known
+  counter_there (Integer name) known = known
+
+  -- FOR, where its limit and step fit
+  started_fits : (n : ℕ) (b r : List Terminal) (cell : Cell) (x : NumExpr) (limit : List Op) → IsCell prog line cell → IsNum 1 b x → AllKnown prog b → Fits prog 0 24 r limit
+      → Fits prog 0 12 (t.Keyword word.For ∷ t.IntName n ∷ equals ∷ (b ++ r)) (expr_code prog line x ++ store_op cell ∷ limit)
+  started_fits n b r cell x limit cell_known d known rest =
+      let value : Fits prog 0 48 (b ++ r) (expr_code prog line x ++ store_op cell ∷ limit) =
+      around (store_op cell ∷ []) (num_fits prog line 1 b x d known) (store_there prog line cell cell_known) (store_pushes prog line cell) rest (omega (arith, store_cost prog line cell)) in
+      after {D = 0} {S = 12} (t.Keyword word.For) (after {D = 0} {S = 0} (t.IntName n) (after {D = 0} {S = 0} equals value (lit≤ tt)) (lit≤ tt)) (lit≤ tt)
+
+  for_fits : (n : ℕ) (b b' : List Terminal) (x y : NumExpr) → IsNum 1 b x → IsNum 1 b' y → AllKnown prog (t.Keyword word.For ∷ t.IntName n ∷ equals ∷ (b ++ t.Keyword word.To ∷ b'))
+      → Fits prog 0 12 (t.Keyword word.For ∷ t.IntName n ∷ equals ∷ (b ++ t.Keyword word.To ∷ b')) (for_code prog line (integer_cell prog.names n) x y None)
+  for_fits n b b' x y d d' known =
+      let cell : Cell = integer_cell prog.names n in
+      let is_there : IsCell prog line cell = cell_of prog line n known.1.0 in
+      let limit = num_fits prog line 1 b' y d' (back_known prog b (t.Keyword word.To ∷ b') known.1.1.1).1 in
+      started_fits n b (t.Keyword word.To ∷ b') cell x _ is_there d (front_known prog b (t.Keyword word.To ∷ b') known.1.1.1)
+      (within (t.Keyword word.To) (step_code prog line None ++ o.OpenFor (counter_of cell) line ∷ []) limit (tt, (counter_there cell is_there, tt)) (lit≤ tt) (lit≤ tt))
+
+  for_step_fits : (n : ℕ) (b b' q : List Terminal) (x y z : NumExpr) → IsNum 1 b x → IsNum 1 b' y → IsNum 1 q z
+      → AllKnown prog (t.Keyword word.For ∷ t.IntName n ∷ equals ∷ (b ++ t.Keyword word.To ∷ (b' ++ t.Keyword word.Step ∷ q)))
+      → Fits prog 0 12 (t.Keyword word.For ∷ t.IntName n ∷ equals ∷ (b ++ t.Keyword word.To ∷ (b' ++ t.Keyword word.Step ∷ q)))
+      (for_code prog line (integer_cell prog.names n) x y (Some z))
+  for_step_fits n b b' q x y z d d' d2 known =
+      let cell : Cell = integer_cell prog.names n in
+      let is_there : IsCell prog line cell = cell_of prog line n known.1.0 in
+      let after_to : AllKnown prog (b' ++ t.Keyword word.Step ∷ q) = (back_known prog b (t.Keyword word.To ∷ (b' ++ t.Keyword word.Step ∷ q)) known.1.1.1).1 in
+      let step : Fits prog 0 144 (t.Keyword word.Step ∷ q) (expr_code prog line z) =
+      after (t.Keyword word.Step) (num_fits prog line 1 q z d2 (back_known prog b' (t.Keyword word.Step ∷ q) after_to).1) (lit≤ tt) in
+      let opened : Fits prog 0 48 (t.Keyword word.Step ∷ q) (expr_code prog line z ++ o.OpenFor (counter_of cell) line ∷ []) =
+      then_ops (o.OpenFor (counter_of cell) line ∷ []) step (counter_there cell is_there, tt) refl (lit≤ tt) in
+      let limit = num_fits prog line 1 b' y d' (front_known prog b' (t.Keyword word.Step ∷ q) after_to) in
+      started_fits n b (t.Keyword word.To ∷ (b' ++ t.Keyword word.Step ∷ q)) cell x _ is_there d
+      (front_known prog b (t.Keyword word.To ∷ (b' ++ t.Keyword word.Step ∷ q)) known.1.1.1)
+      (after (t.Keyword word.To) (beside {D = 0} {S = 0} limit opened (lit≤ tt)) (lit≤ tt))
+
+  -- a variable of NEXT
+  name_fits : (a : List Terminal) (n : ℕ) → IsIntName a n → AllKnown prog a → Fits prog 0 0 a (o.Next (counter_of (integer_cell prog.names n)) line ∷ [])
+  name_fits a n (g.int_name _) known =
+      record { there = (counter_there (integer_cell prog.names n) (cell_of prog line n known.0), tt); cheap = lit≤ tt; low = lit≤ tt }
+
+  names_fit : (a : List Terminal) (ns : List ℕ) → IsList AnIntName a ns → AllKnown prog a → Fits prog 0 0 a (nexts_code prog line ns)
+  names_fit a ns (g.last_of_list _ n d) known = name_fits a n d known
+  names_fit a ns (g.more_of_list a' b n rest d d') known =
+      beside (name_fits a' n d (front_known prog a' (t.Comma ∷ b) known))
+      (after {D = 0} {S = 0} t.Comma (names_fit b rest d' (back_known prog a' (t.Comma ∷ b) known).1) (lit≤ tt)) (lit≤ tt)
+
+  next_fits : (a : List Terminal) (ns : List ℕ) → IsList AnIntName a ns → AllKnown prog a → Fits prog 0 12 (t.Keyword word.Next ∷ a) (next_code prog line ns)
+  next_fits a ns (g.last_of_list a' n d) known = after (t.Keyword word.Next) (names_fit a ns (g.last_of_list a' n d) known) (lit≤ tt)
+  next_fits a ns (g.more_of_list a' b n rest d d') known = after (t.Keyword word.Next) (names_fit a ns (g.more_of_list a' b n rest d d') known) (lit≤ tt)
+
+  -- ---- words and their operands
 
   -- what a word's form makes of its operands
   abbrev FitsForm : Keyword → Form → Type 0
-  FitsForm c (Takes ss f) = (a : List Terminal) (vs : Values ss) → IsOperands ss a vs → AllKnown prog a → Fits prog 0 8 (t.Keyword c ∷ a) (statement_code prog line (f vs))
-  FitsForm c (Lists slot f) = (a : List Terminal) (vs : List (ValueOf slot)) → IsList slot a vs → Fits prog 0 8 (t.Keyword c ∷ a) (statement_code prog line (f vs))
+  FitsForm c (Takes ss f) = (a : List Terminal) (vs : Values ss) → IsOperands ss a vs → AllKnown prog a → Fits prog 0 12 (t.Keyword c ∷ a) (statement_code prog place line (f vs))
+  FitsForm c (Lists slot f) = (a : List Terminal) (vs : List (ValueOf slot)) → IsList slot a vs → Fits prog 0 12 (t.Keyword c ∷ a) (statement_code prog place line (f vs))
   FitsForm c OwnForm = Unit {0}
 
   form_fits : (c : Keyword) → FitsForm c (form c)
   form_fits word.Goto = λ a vs d known. goto_fits (t.Keyword word.Goto) a vs.0 refl
-  form_fits word.Gosub = λ a vs d known. ends (t.Keyword word.Gosub) a (lit≤ tt)
-  form_fits word.Return = λ a vs d known. ends (t.Keyword word.Return) a (lit≤ tt)
-  form_fits word.Until = λ a vs d known. ends (t.Keyword word.Until) a (lit≤ tt)
-  form_fits word.While = λ a vs d known. ends (t.Keyword word.While) a (lit≤ tt)
-  form_fits word.EndWhile = λ a vs d known. ends (t.Keyword word.EndWhile) a (lit≤ tt)
+  form_fits word.Gosub = λ a vs d known. gosub_fits (t.Keyword word.Gosub) a (line_place prog vs.0) refl
+  form_fits word.Return = λ a vs d known. record { there = (tt, tt); cheap = omega arith; low = omega arith }
+  form_fits word.Until = λ a vs d known. valued_fits word.Until a vs (o.Until line ∷ []) refl d known (tt, tt) refl (lit≤ tt)
+  form_fits word.While = λ a vs d known. valued_fits word.While a vs (o.GoIfZero (after_endwhile prog place) ∷ o.OpenWhile line ∷ []) refl d known (tt, (tt, tt)) refl (lit≤ tt)
+  form_fits word.EndWhile = λ a vs d known. record { there = (tt, tt); cheap = omega arith; low = omega arith }
   form_fits word.End = λ a vs d known. ends (t.Keyword word.End) a (lit≤ tt)
   form_fits word.Stop = λ a vs d known. record { there = (tt, tt); cheap = omega arith; low = omega arith }
   form_fits word.Quit = λ a vs d known. ends (t.Keyword word.Quit) a (lit≤ tt)
@@ -188,15 +251,15 @@ module _ (prog : Prog) (line : ℕ) where
   form_fits word.Call = λ a vs d known. ends (t.Keyword word.Call) a (lit≤ tt)
   form_fits word.Error = λ a vs d known. ends (t.Keyword word.Error) a (lit≤ tt)
   form_fits word.Report = λ a vs d known. ends (t.Keyword word.Report) a (lit≤ tt)
-  form_fits word.Mode = λ a vs d known. written_fits word.Mode a vs (o.Write pieces.Mode) refl d known (tt, tt) refl (lit≤ tt)
-  form_fits word.Colour = λ a vs d known. written_fits word.Colour a vs (o.Write pieces.Colour) refl d known (tt, tt) refl (lit≤ tt)
+  form_fits word.Mode = λ a vs d known. valued_fits word.Mode a vs (o.Write pieces.Mode ∷ []) refl d known (tt, tt) refl (lit≤ tt)
+  form_fits word.Colour = λ a vs d known. valued_fits word.Colour a vs (o.Write pieces.Colour ∷ []) refl d known (tt, tt) refl (lit≤ tt)
   form_fits word.Cls = λ a vs d known. record { there = (tt, tt); cheap = omega arith; low = omega arith }
   form_fits word.Local = λ a vs d. ends (t.Keyword word.Local) a (lit≤ tt)
   form_fits word.Read = λ a vs d. ends (t.Keyword word.Read) a (lit≤ tt)
   form_fits word.Dim = λ a vs d. ends (t.Keyword word.Dim) a (lit≤ tt)
   form_fits _ = tt
 
-  pub statement_fits : (a : List Terminal) (x : Stmt) → IsStmt a x → AllKnown prog a → Fits prog 0 8 a (statement_code prog line x)
+  pub statement_fits : (a : List Terminal) (x : Stmt) → IsStmt a x → AllKnown prog a → Fits prog 0 12 a (statement_code prog place line x)
   statement_fits a x (s.takes c ss f b vs is d) known = subst (FitsForm c) is (form_fits c) b vs d known.1
   statement_fits a x (s.lists c slot f b vs is d) known = subst (FitsForm c) is (form_fits c) b vs d
   statement_fits a x (s.assign _ y d) known = assignment_fits a y d known
@@ -206,10 +269,10 @@ module _ (prog : Prog) (line : ℕ) where
   statement_fits a x (s.subtract b b' v y d d') known = subtract_fits b b' v y d d' known
   statement_fits a x (s.swap_numbers b b' v w d d') known = ends (t.Keyword word.Swap) _ (lit≤ tt)
   statement_fits a x (s.swap_texts b b' v w d d') known = ends (t.Keyword word.Swap) _ (lit≤ tt)
-  statement_fits a x (s.for n b b' y z d d') known = ends (t.Keyword word.For) _ (lit≤ tt)
-  statement_fits a x (s.for_step n b b' q y z w d d' d2) known = ends (t.Keyword word.For) _ (lit≤ tt)
-  statement_fits a x s.next known = ends (t.Keyword word.Next) [] (lit≤ tt)
-  statement_fits a x (s.next_of b ns d) known = ends (t.Keyword word.Next) b (lit≤ tt)
+  statement_fits a x (s.for n b b' y z d d') known = for_fits n b b' y z d d' known
+  statement_fits a x (s.for_step n b b' q y z w d d' d2) known = for_step_fits n b b' q y z w d d' d2 known
+  statement_fits a x s.next known = record { there = (tt, tt); cheap = lit≤ tt; low = lit≤ tt }
+  statement_fits a x (s.next_of b ns d) known = next_fits b ns d known.1
   statement_fits a x (s.procedure n) known = ends (t.Procedure n) [] (lit≤ tt)
   statement_fits a x (s.procedure_open n b xs d) known = ends (t.ProcedureOpen n) b (lit≤ tt)
   statement_fits a x (s.result b y d) known = ends equals b (lit≤ tt)

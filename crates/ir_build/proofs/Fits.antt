@@ -132,6 +132,15 @@ module _ {prog : Prog} where
     low = omega (arith, one.low, length-append a b);
   }
 
+  -- a piece with a terminal before it, and after it operations that push at most one value
+  pub within : {d s D S : ℕ} {a : List Terminal} {xs : List Op} (c : Terminal) (ops : List Op) → Fits prog d s a xs → AllThere prog ops → pushes ops ≤ 1 → cost ops + (S + d) ≤ D + (s + worth c)
+      → Fits prog D S (c ∷ a) (xs ++ ops)
+  within {d} {s} {D} {S} {a} {xs} c ops one there few pays = record {
+    there = append_there prog xs ops one.there there;
+    cheap = omega (arith, one.cheap, pays, cost_append xs ops);
+    low = omega (arith, one.low, few, pushes_append xs ops);
+  }
+
   -- the end of a run, spelled out by a terminal that is worth something
   pub stops : (c : Terminal) (a : List Terminal) → 88 ≤ worth c → Fits prog 0 64 (c ∷ a) (o.End ∷ [])
   stops c a worthy = record { there = (tt, tt); cheap = omega (arith, worthy); low = omega arith }

@@ -1,6 +1,6 @@
 -- The code of an expression pushes its value, and the code of an item does what the item does.
-use Rattle.std.proofs.Common.{◌≡◌, ℕ, ◌+◌, List, [], ◌∷◌, ◌++◌, Option, None, Some, refl, ap, ◌∙◌, append_assoc}
-use Rattle.std.specs.Prelude.{ℤ, pos, Bool, true, false, if◌then◌else◌}
+use Rattle.std.proofs.Common.{◌≡◌, ℕ, zero, suc, ◌+◌, ◌-◌, List, [], ◌∷◌, ◌++◌, Option, None, Some, refl, sym, ap, ◌∙◌, append_assoc, arith}
+use Rattle.std.specs.Prelude.{ℤ, pos, negsuc, Bool, true, false, if◌then◌else◌}
 use Rattle.std.specs.Ordering.{int_eq}
 use Rattle.bas_ast.specs.declared.expressions.BinaryOp.{BinaryOp}
 use Rattle.bas_ast.specs.declared.expressions.BinaryOp.TheVariants as operators
@@ -13,6 +13,8 @@ use Rattle.bas_ast.specs.declared.expressions.UnaryOp.TheVariants as unary
 use Rattle.bas_ast.specs.declared.expressions.Variable.TheVariants as var
 use Rattle.bas_ast.specs.declared.lines.Item.{Item}
 use Rattle.bas_ast.specs.declared.lines.Item.TheVariants as item
+use Rattle.bas_ast.specs.declared.lines.Jump.{Jump}
+use Rattle.bas_ast.specs.declared.lines.Jump.TheVariants as jumps
 use Rattle.bas_ast.specs.declared.program.Prog.{Prog}
 use Rattle.bas_ast.specs.declared.statements.Assignment.{Assignment}
 use Rattle.bas_ast.specs.declared.statements.Assignment.TheVariants as assigns
@@ -30,23 +32,25 @@ use Rattle.bas_ast.specs.declared.targets.NumTarget.TheVariants as target
 use Rattle.bas_ir.specs.declared.op.Op.{Op}
 use Rattle.bas_ir.specs.declared.op.Op.TheVariants as o
 use Rattle.bas_ir.specs.declared.op.Piece.TheVariants as pieces
-use Rattle.bas_ir.specs.Effects.{Effect, falls, go_if}
+use Rattle.bas_ir.specs.Effects.{Effect, Goes, falls, go_if, counted_down, go_if_one, gosub_if_one, raise_if_one, round_or_on}
 use Rattle.bas_ir.specs.Places.{Pending, nothing, pushed, text_pushed}
 use Rattle.bas_store.specs.Cells.{Cell, Resident, Integer, integer_cell}
-use Rattle.bas_store.specs.Stored.{Handler}
-use Rattle.bas_value.specs.Errors.{error_text, no_such_line, stopped}
+use Rattle.bas_store.specs.Opened.{AnyNext, NextOf, EndWhile, Return}
+use Rattle.bas_store.specs.Stored.{Handler, For}
+use Rattle.bas_value.specs.Errors.{error_text, no_such_line, on_range, stopped}
 use Rattle.bas_value.specs.Output as out
 use Rattle.bv_num.specs.Operation as operations
 use Rattle.bv_num.specs.Operation.{Operation, operation}
 use Rattle.bas_sem.specs.State.{State}
-use Rattle.bas_sem.specs.Course.{Action, ◌>>=◌, ◌>>◌}
+use Rattle.bas_sem.specs.Course.{Action, ◌>>=◌, ◌>>◌, give}
 use Rattle.bas_sem.specs.Actions.{read, assign, write, wrote, or_raise, raise, raised_to, taker}
-use Rattle.bas_sem.specs.Calls.{Level, Next, go_on}
+use Rattle.bas_sem.specs.Calls.{Calls, Level, Next, GoOn, go_on}
 use Rattle.bas_sem.specs.Evaluate.{evaluate, evaluate_text}
-use Rattle.bas_sem.specs.Items.{assignment, go_to, goes, print, vdu, output, branch, statement, execute_item}
+use Rattle.bas_sem.specs.Items.{assignment, go_to, gosub_to, back_or, nexts, next_of, step_of, while_if, goes, chosen, on_line, out_of_range, on_chosen, print, vdu, output, branch, statement, execute_item}
+use Rattle.bas_sem.specs.Loops.{opens, closing, until, next}
 use Rattle.bas_sem.specs.Operators.{of_one, of_two}
-use Rattle.bas_sem.specs.Places.{Row, else_place, line_place}
-use Rattle.ir_build.specs.Code.{unary_code, read_op, store_op, expr_code, text_code, assignment_code, go_op, flow_op, print_code, vdu_code, output_code, statement_code, item_code, or_jump, row_code, flat_code}
+use Rattle.bas_sem.specs.Places.{Row, else_place, on_else, after_endwhile, line_place}
+use Rattle.ir_build.specs.Code.{unary_code, read_op, store_op, expr_code, text_code, assignment_code, go_op, gosub_op, counter_of, step_code, for_code, nexts_code, next_code, flow_code, choice_op, choices_code, otherwise_op, print_code, vdu_code, output_code, statement_code, item_code, or_jump, row_code, flat_code}
 use Rattle.ir_build.proofs.Bind.{bind_assoc, bind_same, bind_then}
 use Rattle.ir_build.proofs.Denote.{calls_at, carry, den}
 
@@ -56,7 +60,7 @@ module _ (prog : Prog) (level : Level) (next : ℕ) where
   does ops p = den prog (flat_code prog) level next ops p
 
   abbrev carries : (Pending → Action Next) → Effect → Action Next
-  carries then_do = carry prog (flat_code prog) level then_do
+  carries then_do = carry prog (flat_code prog) level next then_do
 
   -- an action whose value is pushed
   pushes : (m : Action ℤ) (ops : List Op) (p : Pending) (s : State) → ((m >>= (λ v. falls (pushed v p))) >>= carries (does ops)) s ≡ (m >>= (λ v. does ops (pushed v p))) s
@@ -200,29 +204,184 @@ module _ (prog : Prog) (level : Level) (next : ℕ) where
   raised_den None error text line then_do s = refl
   raised_den (Some h) error text line then_do s = refl
 
+  pub raise_then : (error line : ℕ) (then_do : Effect → Action Next) (s : State) → (raise error line >>= then_do) s ≡ raise error line s
+  raise_then error line then_do s = raised_den (taker (int_eq (pos error) (pos 0)) s.handler) (pos error) (error_text error) line then_do s
+
   raise_den : (error line : ℕ) (ops : List Op) (s : State) → does (o.Raise error line ∷ ops) nothing s ≡ raise error line s
-  raise_den error line ops s = raised_den (taker (int_eq (pos error) (pos 0)) s.handler) (pos error) (error_text error) line (carries (does ops)) s
-
-  go_to_den : (to : Option ℕ) (line : ℕ) (s : State) → does (go_op to line ∷ []) nothing s ≡ go_to to line s
-  go_to_den None line s = raise_den no_such_line line [] s
-  go_to_den (Some place) line s = refl
-
-  flow_den : (line : ℕ) (w : Flow) (s : State) → does (flow_op prog line w ∷ []) nothing s ≡ goes prog line w s
-  flow_den line (flow.Goto number) s = go_to_den (line_place prog number) line s
-  flow_den line flow.Stop s = raise_den stopped line [] s
-  flow_den line flow.End s = refl
-  flow_den line flow.Quit s = refl
-  flow_den line _ s = refl
+  raise_den error line ops s = raise_then error line (carries (does ops)) s
 
   jump_den : (ops : List Op) (s : State) → does (or_jump next ops) nothing s ≡ does ops nothing s
   jump_den [] s = refl
   jump_den (op ∷ ops) s = refl
 
 module _ (prog : Prog) (level : Level) (place : ℕ) where
-  statement_den : (line : ℕ) (x : Stmt) (s : State)
-      → does prog level (place + 1) (statement_code prog line x) nothing s ≡ statement prog (calls_at prog (flat_code prog) level) place line x s
+  -- operations of the program's code, before the item after this one
+  abbrev runs : List Op → Pending → Action Next
+  runs ops p = does prog level (place + 1) ops p
+
+  abbrev calls_here : Calls
+  calls_here = calls_at prog (flat_code prog) level
+
+  -- an expression, and operations that do what follows its value
+  valued_den : (line : ℕ) (x : NumExpr) (ops : List Op) (p : Pending) (f : ℤ → Action Next) (s : State) → ((v : ℤ) (t : State) → runs ops (pushed v p) t ≡ f v t)
+      → runs (expr_code prog line x ++ ops) p s ≡ (evaluate prog calls_here line x >>= f) s
+  valued_den line x ops p f s same = expr_den prog level (place + 1) line x ops p s ∙ bind_same (evaluate prog calls_here line x) (λ v. runs ops (pushed v p)) f s same
+
+  go_to_den : (to : Option ℕ) (line : ℕ) (ops : List Op) (s : State) → runs (go_op to line ∷ ops) nothing s ≡ go_to to line s
+  go_to_den None line ops s = raise_den prog level (place + 1) no_such_line line ops s
+  go_to_den (Some to) line ops s = refl
+
+  gosub_den : (to : Option ℕ) (line : ℕ) (s : State) → runs (gosub_op to line ∷ []) nothing s ≡ gosub_to level place line to s
+  gosub_den None line s = raise_den prog level (place + 1) no_such_line line [] s
+  gosub_den (Some to) line s = refl
+
+  -- a loop that goes round again, or else on in the item
+  round_den : (m : Action (Option ℕ)) (ops : List Op) (rest : Action Next) (s : State) → ((t : State) → runs ops nothing t ≡ rest t)
+      → ((m >>= (λ back. give (round_or_on nothing back))) >>= carries prog level (place + 1) (runs ops)) s ≡ (m >>= back_or rest) s
+  round_den m ops rest s same =
+      bind_assoc m (λ back. give (round_or_on nothing back)) (carries prog level (place + 1) (runs ops)) s
+      ∙ bind_same m (λ back. give (round_or_on nothing back) >>= carries prog level (place + 1) (runs ops)) (back_or rest) s each
+    where
+      each : (back : Option ℕ) (t : State) → (give (round_or_on nothing back) >>= carries prog level (place + 1) (runs ops)) t ≡ back_or rest back t
+      each None t = same t
+      each (Some to) t = refl
+
+  next_cell_den : (line : ℕ) (cell : Cell) (ops : List Op) (rest : Action Next) (s : State) → ((t : State) → runs ops nothing t ≡ rest t)
+      → runs (o.Next (counter_of cell) line ∷ ops) nothing s ≡ (next level.depth line (NextOf cell) >>= back_or rest) s
+  next_cell_den line (Resident index) ops rest s same = round_den (next level.depth line (NextOf (Resident index))) ops rest s same
+  next_cell_den line (Integer name) ops rest s same = round_den (next level.depth line (NextOf (Integer name))) ops rest s same
+
+  nexts_den : (line : ℕ) (names : List ℕ) (s : State) → runs (nexts_code prog line names) nothing s ≡ nexts prog level place line names s
+  nexts_den line [] s = refl
+  nexts_den line (name ∷ names) s =
+      next_cell_den line (integer_cell prog.names name) (nexts_code prog line names) (nexts prog level place line names) s (nexts_den line names)
+
+  next_den : (line : ℕ) (names : List ℕ) (s : State) → runs (next_code prog line names) nothing s ≡ next_of prog level place line names s
+  next_den line [] s = round_den (next level.depth line AnyNext) [] (go_on (place + 1)) s (λ t. refl)
+  next_den line (name ∷ names) s = nexts_den line (name ∷ names) s
+
+  -- FOR
+  start_den : (cell : Cell) (v : ℤ) (ops : List Op) (s : State) → runs (store_op cell ∷ ops) (pushed v nothing) s ≡ (assign cell v >> runs ops nothing) s
+  start_den (Resident index) v ops s = refl
+  start_den (Integer name) v ops s = refl
+
+  step_den : (line : ℕ) (z : Option NumExpr) (ops : List Op) (p : Pending) (f : ℤ → Action Next) (s : State) → ((v : ℤ) (t : State) → runs ops (pushed v p) t ≡ f v t)
+      → runs (step_code prog line z ++ ops) p s ≡ (step_of prog calls_here line z >>= f) s
+  step_den line None ops p f s same = same (pos 1) s
+  step_den line (Some x) ops p f s same = valued_den line x ops p f s same
+
+  for_opens : (line : ℕ) (cell : Cell) (limit step : ℤ) (s : State)
+      → runs (o.OpenFor (counter_of cell) line ∷ []) (pushed step (pushed limit nothing)) s ≡ (opens level.depth line (For cell limit step) (place + 1) >> go_on (place + 1)) s
+  for_opens line (Resident index) limit step s = refl
+  for_opens line (Integer name) limit step s = refl
+
+  for_den : (line : ℕ) (cell : Cell) (x y : NumExpr) (z : Option NumExpr) (s : State)
+      → runs (for_code prog line cell x y z) nothing s
+      ≡ (evaluate prog calls_here line x >>= (λ start. assign cell start >> (evaluate prog calls_here line y >>= (λ limit. step_of prog calls_here line z
+      >>= (λ step. opens level.depth line (For cell limit step) (place + 1) >> go_on (place + 1)))))) s
+  for_den line cell x y z s =
+      valued_den line x (store_op cell ∷ limit_code) nothing (λ start. assign cell start >> after_start) s
+      (λ v t. start_den cell v limit_code t ∙ bind_same (assign cell v) (λ _. runs limit_code nothing) (λ _. after_start) t (λ _. limit_den))
+    where
+      step_part : List Op
+      step_part = step_code prog line z ++ o.OpenFor (counter_of cell) line ∷ []
+
+      limit_code : List Op
+      limit_code = expr_code prog line y ++ step_part
+
+      after_limit : ℤ → Action Next
+      after_limit limit = step_of prog calls_here line z >>= (λ step. opens level.depth line (For cell limit step) (place + 1) >> go_on (place + 1))
+
+      after_start : Action Next
+      after_start = evaluate prog calls_here line y >>= after_limit
+
+      limit_den : (t : State) → runs limit_code nothing t ≡ after_start t
+      limit_den t =
+          valued_den line y step_part nothing after_limit t
+          (λ limit u. step_den line z (o.OpenFor (counter_of cell) line ∷ []) (pushed limit nothing)
+          (λ step. opens level.depth line (For cell limit step) (place + 1) >> go_on (place + 1)) u (λ step. for_opens line cell limit step))
+
+  while_den : (zero : Bool) (line : ℕ) (s : State)
+      → carries prog level (place + 1) (runs (o.OpenWhile line ∷ [])) (go_if zero (after_endwhile prog place) nothing) s ≡ while_if zero prog level place line s
+  while_den true line s = refl
+  while_den false line s = refl
+
+  flow_den : (line : ℕ) (w : Flow) (s : State) → runs (flow_code prog place line w) nothing s ≡ goes prog calls_here level place line w s
+  flow_den line (flow.Goto number) s = go_to_den (line_place prog number) line [] s
+  flow_den line (flow.Gosub number) s = gosub_den (line_place prog number) line s
+  flow_den line flow.Return s =
+      bind_assoc (closing level.depth line Return) (λ after. give (Goes (GoOn after))) (carries prog level (place + 1) (runs [])) s
+  flow_den line (flow.For name x y z) s = for_den line (integer_cell prog.names name) x y z s
+  flow_den line (flow.Next names) s = next_den line names s
+  flow_den line (flow.Until x) s =
+      valued_den line x (o.Until line ∷ []) nothing (λ v. until level.depth line v >>= back_or (go_on (place + 1))) s
+      (λ v t. round_den (until level.depth line v) [] (go_on (place + 1)) t (λ u. refl))
+  flow_den line (flow.While x) s =
+      valued_den line x (o.GoIfZero (after_endwhile prog place) ∷ o.OpenWhile line ∷ []) nothing (λ v. while_if (int_eq v (pos 0)) prog level place line) s
+      (λ v t. while_den (int_eq v (pos 0)) line t)
+  flow_den line flow.EndWhile s =
+      bind_assoc (closing level.depth line EndWhile) (λ after. give (Goes (GoOn (after - 1)))) (carries prog level (place + 1) (runs [])) s
+  flow_den line flow.End s = refl
+  flow_den line flow.Stop s = raise_den prog level (place + 1) stopped line [] s
+  flow_den line flow.Quit s = refl
+
+  -- ---- ON
+
+  -- a line of ON that is not chosen, and one that is
+  not_chosen : (jump : Jump) (to : Option ℕ) (line : ℕ) (v : ℤ) (ops : List Op) (s : State) → int_eq v (pos 1) ≡ false
+      → runs (choice_op jump to line ∷ ops) (pushed v nothing) s ≡ runs ops (pushed (counted_down v) nothing) s
+  not_chosen jump None line v ops s other =
+      ap (λ b. (raise_if_one b no_such_line line v nothing >>= carries prog level (place + 1) (runs ops)) s) other
+  not_chosen jumps.Goto (Some to) line v ops s other = ap (λ b. carries prog level (place + 1) (runs ops) (go_if_one b to v nothing) s) other
+  not_chosen jumps.Gosub (Some to) line v ops s other = ap (λ b. carries prog level (place + 1) (runs ops) (gosub_if_one b to line v nothing) s) other
+
+  -- the line that ON leads to
+  abbrev led_to : Jump → Option ℕ → ℕ → Action Next
+  led_to jumps.Goto to line = go_to to line
+  led_to jumps.Gosub to line = gosub_to level place line to
+
+  is_chosen : (jump : Jump) (to : Option ℕ) (line : ℕ) (ops : List Op) (s : State) → runs (choice_op jump to line ∷ ops) (pushed (pos 1) nothing) s ≡ led_to jump to line s
+  is_chosen jumps.Goto None line ops s = raise_then prog level (place + 1) no_such_line line (carries prog level (place + 1) (runs ops)) s
+  is_chosen jumps.Gosub None line ops s = raise_then prog level (place + 1) no_such_line line (carries prog level (place + 1) (runs ops)) s
+  is_chosen jumps.Goto (Some to) line ops s = refl
+  is_chosen jumps.Gosub (Some to) line ops s = refl
+
+  on_line_is : (jump : Jump) (line number : ℕ) (s : State) → led_to jump (line_place prog number) line s ≡ on_line prog level place line jump number s
+  on_line_is jumps.Goto line number s = refl
+  on_line_is jumps.Gosub line number s = refl
+
+  otherwise_den : (to : Option ℕ) (line : ℕ) (v : ℤ) (s : State) → runs (o.Discard ∷ otherwise_op to line ∷ []) (pushed v nothing) s ≡ out_of_range line to s
+  otherwise_den None line v s = raise_den prog level (place + 1) on_range line [] s
+  otherwise_den (Some to) line v s = refl
+
+  none_chosen : (v : ℤ) → chosen v [] ≡ None
+  none_chosen (pos zero) = refl
+  none_chosen (pos (suc n)) = refl
+  none_chosen (negsuc n) = refl
+
+  more_than_one : (n : ℕ) → int_eq (pos (suc (suc n))) (pos 1) ≡ false
+  more_than_one n = grind arith
+
+  -- these lines of ON, and where it goes on without them
+  abbrev choices : ℕ → Jump → List ℕ → List Op
+  choices line jump numbers = choices_code prog line jump numbers ++ o.Discard ∷ otherwise_op (on_else prog place) line ∷ []
+
+  -- the n-th line is chosen where the number is n
+  choices_den : (line : ℕ) (jump : Jump) (numbers : List ℕ) (v : ℤ) (s : State)
+      → runs (choices line jump numbers) (pushed v nothing) s ≡ on_chosen prog level place line jump (chosen v numbers) s
+  choices_den line jump [] v s = otherwise_den (on_else prog place) line v s ∙ sym (ap (λ c. on_chosen prog level place line jump c s) (none_chosen v))
+  choices_den line jump (number ∷ numbers) (pos zero) s =
+      not_chosen jump (line_place prog number) line (pos 0) (choices line jump numbers) s refl ∙ choices_den line jump numbers (pos 0) s
+  choices_den line jump (number ∷ numbers) (pos (suc zero)) s =
+      is_chosen jump (line_place prog number) line (choices line jump numbers) s ∙ on_line_is jump line number s
+  choices_den line jump (number ∷ numbers) (pos (suc (suc n))) s =
+      not_chosen jump (line_place prog number) line (pos (suc (suc n))) (choices line jump numbers) s (more_than_one n) ∙ choices_den line jump numbers (pos (suc n)) s
+  choices_den line jump (number ∷ numbers) (negsuc n) s =
+      not_chosen jump (line_place prog number) line (negsuc n) (choices line jump numbers) s refl ∙ choices_den line jump numbers (negsuc n) s
+
+  statement_den : (line : ℕ) (x : Stmt) (s : State) → runs (statement_code prog place line x) nothing s ≡ statement prog calls_here level place line x s
   statement_den line (stmt.Assign a) s = assignment_den prog level (place + 1) line a s
-  statement_den line (stmt.Flow w) s = flow_den prog level (place + 1) line w s
+  statement_den line (stmt.Flow w) s = flow_den line w s
   statement_den line (stmt.Output w) s = output_den prog level (place + 1) line w s
   statement_den line _ s = refl
 
@@ -232,13 +391,15 @@ module _ (prog : Prog) (level : Level) (place : ℕ) where
   branch_den true item s = refl
   branch_den false item s = refl
 
-  pub item_den : (line : ℕ) (i : Item) (s : State)
-      → does prog level (place + 1) (item_code prog place line i) nothing s ≡ execute_item prog (calls_at prog (flat_code prog) level) level place line i s
+  pub item_den : (line : ℕ) (i : Item) (s : State) → runs (item_code prog place line i) nothing s ≡ execute_item prog calls_here level place line i s
   item_den line (item.Stmt x) s = statement_den line x s
   item_den line (item.If x) s =
-      expr_den prog level (place + 1) line x (o.GoIfZero (else_place prog place) ∷ []) nothing s
-      ∙ bind_same (value_of prog level (place + 1) line x) (λ v. does prog level (place + 1) (o.GoIfZero (else_place prog place) ∷ []) (pushed v nothing))
-      (λ v. go_on (branch prog place v)) s (λ v t. branch_den (int_eq v (pos 0)) (else_place prog place) t)
+      valued_den line x (o.GoIfZero (else_place prog place) ∷ []) nothing (λ v. go_on (branch prog place v)) s
+      (λ v t. branch_den (int_eq v (pos 0)) (else_place prog place) t)
+  item_den line (item.On x jump numbers) s =
+      valued_den line x (choices line jump numbers) nothing
+      (λ v. on_chosen prog level place line jump (chosen v numbers)) s (λ v t. choices_den line jump numbers v t)
+  item_den line item.Repeat s = refl
   item_den line item.Else s = refl
   item_den line item.Remark s = refl
   item_den line _ s = refl

@@ -61,7 +61,7 @@ next_is_empty ([] ∷ cs) full = absurd full
 next_is_empty ((op ∷ c) ∷ cs) full = refl
 
 -- the first height after an operation is what it leaves
-first_height : (h : Option Height) (c : List Op) (cs : List (List Op)) → Suffices [] c h → AreFull cs → h ≡ Some (slice_index_or (heights_in h c cs) 0 empty_height)
+pub first_height : (h : Option Height) (c : List Op) (cs : List (List Op)) → Suffices [] c h → AreFull cs → h ≡ Some (slice_index_or (heights_in h c cs) 0 empty_height)
 first_height None c cs suffices full = absurd suffices
 first_height (Some h) [] cs suffices full = ap Some (is_empty_height h suffices ∙ sym (next_is_empty cs full))
 first_height (Some h) (op ∷ c) cs suffices full = refl
@@ -157,13 +157,16 @@ module _ (prog : Prog) where
   codes_from-long [] base = refl
   codes_from-long (r ∷ rs) base = ap suc (codes_from-long rs (base + 1))
 
-  all_starts : length (flat_code prog).starts ≡ total prog
+  pub all_starts : length (flat_code prog).starts ≡ total prog
   unfolding codes
   all_starts = starts_long (codes prog) 0 ∙ codes_from-long (rows prog) 0
 
   reached_of : (op : Op) → Reaches prog op → IsReached (flat_code prog) op
   reached_of (o.Go item) up_to = subst (λ n. item ≤ n) (sym all_starts) up_to
   reached_of (o.GoIfZero item) up_to = subst (λ n. item ≤ n) (sym all_starts) up_to
+  reached_of (o.GoIfOne item) up_to = subst (λ n. item ≤ n) (sym all_starts) up_to
+  reached_of (o.GosubIfOne item line) up_to = subst (λ n. item ≤ n) (sym all_starts) up_to
+  reached_of (o.Gosub item line) up_to = subst (λ n. item ≤ n) (sym all_starts) up_to
   reached_of (o.HandleAll item) up_to = subst (λ n. item ≤ n) (sym all_starts) up_to
   reached_of (o.HandleHere item) up_to = subst (λ n. item ≤ n) (sym all_starts) up_to
   reached_of _ up_to = tt

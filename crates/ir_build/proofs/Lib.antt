@@ -1,5 +1,6 @@
 pub mod Equations
 pub mod TableSteps
+pub mod WhileEnds
 mod Bind
 pub mod Denote
 pub mod ItemDenotes

@@ -12,7 +12,10 @@ use Rattle.bas_ast.specs.declared.expressions.UnaryOp.TheVariants as unary
 use Rattle.bas_ast.specs.declared.expressions.Variable.TheVariants as var
 use Rattle.bas_ast.specs.declared.lines.Item.{Item}
 use Rattle.bas_ast.specs.declared.lines.Item.TheVariants as item
+use Rattle.bas_ast.specs.declared.lines.Jump.{Jump}
+use Rattle.bas_ast.specs.declared.lines.Jump.TheVariants as jumps
 use Rattle.bas_ast.specs.declared.program.Prog.{Prog}
+use Rattle.bas_ast.specs.Structures.{bound}
 use Rattle.bas_ast.specs.declared.program.ProgLine.{ProgLine}
 use Rattle.bas_ast.specs.declared.statements.Assignment.{Assignment}
 use Rattle.bas_ast.specs.declared.statements.Assignment.TheVariants as assigns
@@ -31,8 +34,8 @@ use Rattle.bas_ir.specs.declared.op.Op.{Op}
 use Rattle.bas_ir.specs.declared.op.Op.TheVariants as o
 use Rattle.bas_ir.specs.declared.op.Piece.TheVariants as pieces
 use Rattle.bas_store.specs.Cells.{Cell, Resident, Integer, integer_cell}
-use Rattle.bas_sem.specs.Places.{Row, rows, rest_among, rest_of_line, after_else, else_place, line_among, line_place}
-use Rattle.ir_build.specs.Code.{unary_code, read_op, store_op, expr_code, text_code, assignment_code, go_op, flow_op, print_code, vdu_code, output_code, statement_code, item_code, or_jump, row_code, codes_from, codes, joined}
+use Rattle.bas_sem.specs.Places.{Row, rows, rest_among, rest_of_line, after_else, else_place, found_else, on_else, ends_while, depth_after, while_end, after_endwhile, line_among, line_place}
+use Rattle.ir_build.specs.Code.{unary_code, read_op, store_op, expr_code, text_code, assignment_code, go_op, gosub_op, counter_of, step_code, nexts_code, next_code, flow_code, choice_op, choices_code, otherwise_op, print_code, vdu_code, output_code, statement_code, item_code, or_jump, row_code, codes_from, codes, joined}
 
 abbrev IsNot : {A : Type 0} → Option A → Type 0
 IsNot None = Unit {0}
@@ -83,6 +86,25 @@ else_up_to [] place = omega arith
 else_up_to (item.Else ∷ items) place = omega arith
 else_up_to (_ ∷ items) place = omega (arith, else_up_to items (place + 1))
 
+UpTo-more : (n m : ℕ) (o : Option ℕ) → n ≤ m → UpTo n o → UpTo m o
+UpTo-more n m None more up_to = tt
+UpTo-more n m (Some place) more up_to = omega (arith, more, up_to)
+
+found_up_to : (items : List Item) (place : ℕ) → UpTo (place + length items) (found_else items place)
+found_up_to [] place = tt
+found_up_to (item.Else ∷ items) place = omega arith
+found_up_to (_ ∷ items) place = UpTo-more (place + 1 + length items) (place + suc (length items)) (found_else items (place + 1)) (omega arith) (found_up_to items (place + 1))
+
+one_or_other : (b : Bool) (n one other : ℕ) → one ≤ n → other ≤ n → (if b then one else other) ≤ n
+one_or_other true n one other first second = first
+one_or_other false n one other first second = second
+
+while_up_to : (depth : ℕ) (rs : List Row) (place : ℕ) → while_end depth rs place ≤ place + length rs
+while_up_to depth [] place = omega arith
+while_up_to depth (r ∷ rs) place =
+    one_or_other (ends_while (bound r.item) depth) (place + suc (length rs)) (place + 1) (while_end (depth_after (bound r.item) depth) rs (place + 1))
+    (omega arith) (omega (arith, while_up_to (depth_after (bound r.item) depth) rs (place + 1)))
+
 module _ (prog : Prog) where
   abbrev pub total : ℕ
   total = length (rows prog)
@@ -90,6 +112,9 @@ module _ (prog : Prog) where
   abbrev pub Reaches : Op → Type 0
   Reaches (o.Go item) = item ≤ total
   Reaches (o.GoIfZero item) = item ≤ total
+  Reaches (o.GoIfOne item) = item ≤ total
+  Reaches (o.GosubIfOne item line) = item ≤ total
+  Reaches (o.Gosub item line) = item ≤ total
   Reaches (o.HandleAll item) = item ≤ total
   Reaches (o.HandleHere item) = item ≤ total
   Reaches _ = Unit {0}
@@ -180,22 +205,74 @@ module _ (prog : Prog) where
     goto_up_to : (number : ℕ) → UpTo total (line_place prog number)
     goto_up_to number = subst (λ n. UpTo n (line_place prog number)) (zero-add total) (line_up_to prog.lines number 0)
 
-    flow_reach : (w : Flow) → AllReach (flow_op prog line w ∷ [])
-    flow_reach (flow.Goto number) = go_reach (line_place prog number) (goto_up_to number)
-    flow_reach flow.Stop = (tt, tt)
-    flow_reach _ = (tt, tt)
+    gosub_reach : (to : Option ℕ) → UpTo total to → AllReach (gosub_op to line ∷ [])
+    gosub_reach None up_to = (tt, tt)
+    gosub_reach (Some place) up_to = (up_to, tt)
 
-    statement_reach : (s : Stmt) → AllReach (statement_code prog line s)
-    statement_reach (stmt.Assign a) = assignment_reach a
-    statement_reach (stmt.Flow w) = flow_reach w
-    statement_reach (stmt.Output w) = output_reach w
-    statement_reach _ = (tt, tt)
+    nexts_reach : (names : List ℕ) → AllReach (nexts_code prog line names)
+    nexts_reach [] = tt
+    nexts_reach (name ∷ names) = (tt, nexts_reach names)
+
+    next_reach : (names : List ℕ) → AllReach (next_code prog line names)
+    next_reach [] = (tt, tt)
+    next_reach (name ∷ names) = nexts_reach (name ∷ names)
+
+    step_reach : (z : Option NumExpr) → AllReach (step_code prog line z)
+    step_reach None = (tt, tt)
+    step_reach (Some x) = expr_reach x
+
+    flow_reach : (place : ℕ) (w : Flow) → place < total → AllReach (flow_code prog place line w)
+    flow_reach place (flow.Goto number) few = go_reach (line_place prog number) (goto_up_to number)
+    flow_reach place (flow.Gosub number) few = gosub_reach (line_place prog number) (goto_up_to number)
+    flow_reach place flow.Return few = (tt, tt)
+    flow_reach place (flow.For name x y z) few =
+        let opens : List Op = o.OpenFor (counter_of (integer_cell prog.names name)) line ∷ [] in
+        then_reach x (store_op (integer_cell prog.names name)) (expr_code prog line y ++ (step_code prog line z ++ opens)) (store_reach (integer_cell prog.names name))
+        (append_reach (expr_code prog line y) (step_code prog line z ++ opens) (expr_reach y) (append_reach (step_code prog line z) opens (step_reach z) (tt, tt)))
+    flow_reach place (flow.Next names) few = next_reach names
+    flow_reach place (flow.Until x) few = then_reach x (o.Until line) [] tt tt
+    flow_reach place (flow.While x) few =
+        then_reach x (o.GoIfZero (after_endwhile prog place)) (o.OpenWhile line ∷ [])
+        (omega (arith, few, while_up_to 0 (drop (place + 1) (rows prog)) (place + 1), length-drop (place + 1) (rows prog))) (tt, tt)
+    flow_reach place flow.EndWhile few = (tt, tt)
+    flow_reach place flow.End few = (tt, tt)
+    flow_reach place flow.Stop few = (tt, tt)
+    flow_reach place flow.Quit few = (tt, tt)
+
+    statement_reach : (place : ℕ) (s : Stmt) → place < total → AllReach (statement_code prog place line s)
+    statement_reach place (stmt.Assign a) few = assignment_reach a
+    statement_reach place (stmt.Flow w) few = flow_reach place w few
+    statement_reach place (stmt.Output w) few = output_reach w
+    statement_reach place _ few = (tt, tt)
+
+    choice_reach : (jump : Jump) (to : Option ℕ) → UpTo total to → Reaches (choice_op jump to line)
+    choice_reach jump None up_to = tt
+    choice_reach jumps.Goto (Some place) up_to = up_to
+    choice_reach jumps.Gosub (Some place) up_to = up_to
+
+    choices_reach : (jump : Jump) (numbers : List ℕ) → AllReach (choices_code prog line jump numbers)
+    choices_reach jump [] = tt
+    choices_reach jump (number ∷ numbers) = (choice_reach jump (line_place prog number) (goto_up_to number), choices_reach jump numbers)
+
+    otherwise_reach : (to : Option ℕ) → UpTo total to → Reaches (otherwise_op to line)
+    otherwise_reach None up_to = tt
+    otherwise_reach (Some place) up_to = up_to
+
+    on_else_up_to : (place : ℕ) → place < total → UpTo total (on_else prog place)
+    on_else_up_to place few =
+        UpTo-more (place + 1 + length (rest_of_line prog place)) total (on_else prog place) (rest_up_to prog.lines place few)
+        (found_up_to (rest_of_line prog place) (place + 1))
 
     item_reach : (place : ℕ) (i : Item) → place < total → AllReach (item_code prog place line i)
-    item_reach place (item.Stmt s) few = statement_reach s
+    item_reach place (item.Stmt s) few = statement_reach place s few
     item_reach place (item.If x) few =
         then_reach x (o.GoIfZero (else_place prog place)) []
         (omega (arith, else_up_to (rest_of_line prog place) (place + 1), rest_up_to prog.lines place few)) tt
+    item_reach place (item.On x jump numbers) few =
+        let otherwise : List Op = o.Discard ∷ otherwise_op (on_else prog place) line ∷ [] in
+        append_reach (expr_code prog line x) (choices_code prog line jump numbers ++ otherwise) (expr_reach x)
+        (append_reach (choices_code prog line jump numbers) otherwise (choices_reach jump numbers) (tt, (otherwise_reach (on_else prog place) (on_else_up_to place few), tt)))
+    item_reach place item.Repeat few = (tt, tt)
     item_reach place item.Else few = (rest_up_to prog.lines place few, tt)
     item_reach place item.Remark few = tt
     item_reach place _ few = (tt, tt)

@@ -3,11 +3,12 @@ use Rattle.std.proofs.Common.{◌≡◌, inl, inr, ℕ, zero, suc, ◌+◌, List
 use Rattle.std.specs.Prelude.{ℤ, pos, Bool, true, false, nat_le}
 use Rattle.bas_ast.specs.declared.program.Prog.{Prog}
 use Rattle.bas_ir.specs.declared.op.Op.{Op}
-use Rattle.bas_ir.specs.Effects.{Effect, Falls, Goes, Enters, effect}
-use Rattle.bas_ir.specs.Machine.{at_item, left, entered, follow, thrown_if, thrown, caught, performed, begun, at_op, flat_step}
+use Rattle.bas_ir.specs.Effects.{Effect, Falls, Goes, Opens, Enters, effect}
+use Rattle.bas_ir.specs.Machine.{at_item, left, entered, opened_to, follow, thrown_if, thrown, caught, performed, begun, at_op, flat_step}
 use Rattle.bas_ir.specs.Places.{Pending, nothing, result_pushed, Frame, Place, level_of, item_from, is_marked, front}
 use Rattle.bas_store.specs.Cells.{Value as Content}
-use Rattle.bas_store.specs.Stored.{Handler}
+use Rattle.bas_store.specs.Opened.{can_open, with_opened}
+use Rattle.bas_store.specs.Stored.{Handler, Opening}
 use Rattle.bas_value.specs.Errors.{no_room, error_text}
 use Rattle.bv_run.specs.Outcome.{Outcome}
 use Rattle.bv_run.specs.Outcome as outcomes
@@ -19,12 +20,13 @@ use Rattle.bas_sem.specs.Actions.{spend, take_step, raised_to, taker, passed, ta
 use Rattle.bas_sem.specs.Calls.{Kind, Level, Body, Next, GoOn, Leave, call, enter, handling, onward, taken_here, slots_saved, values_assigned, has_room}
 use Rattle.bas_sem.specs.Items.{execute_item}
 use Rattle.bas_sem.specs.Laws.{executed}
+use Rattle.bas_sem.specs.Loops.{open_if}
 use Rattle.bas_sem.specs.Meaning.{at_row}
 use Rattle.bas_sem.specs.Places.{Row, row_at}
 use Rattle.bas_sem.proofs.Runs.{goes_on, zero_least}
 use Rattle.std.specs.Ordering.{int_eq}
 use Rattle.ir_build.specs.Code.{row_code, flat_code}
-use Rattle.ir_build.proofs.Denote.{carry, den, goes_on_from, resume, piece, denote, after}
+use Rattle.ir_build.proofs.Denote.{carry, opened_then, den, goes_on_from, resume, piece, denote, after}
 use Rattle.ir_build.proofs.ItemDenotes.{row_den}
 use Rattle.ir_build.proofs.Spots.{Spot, Past, Inside, Begins, spot, IsItemOf, front_at_start, item_at_start}
 
@@ -118,13 +120,37 @@ module _ (prog : Prog) where
       let inner : List Frame = record { kind = kind; entry = s.handler; back = suc place.pc; pending = q } ∷ place.frames in
       entry_denote inner body.at s.left t ∙ sym (ap comes_to (caught_step place.frames inner body.at s.left t))
 
+  -- an entry opens, with the item after the operation's own as its place
+  no_room_denote : (h : Option Handler) (place : Place) (error : ℤ) (text : List ℕ) (line : ℕ) (one : Unit {0} → Action Next) (other : Unit {0} → Action Place) (s : State)
+      → resumed place.frames (from place.frames ((raised_to h error text line >>= one) s))
+      ≡ comes_to (caught (flat_code prog) place.frames ((raised_to h error text line >>= other) s))
+  no_room_denote None place error text line one other s = resume_over place.frames _ _
+  no_room_denote (Some h) place error text line one other s = thrown_denote place.frames h _
+
+  opened_denote : (place : Place) (to : Option ℕ) (q : Pending) (s : State)
+      → resumed place.frames (from place.frames (opened_then prog (flat_code prog) (rest_of place) to q s)) ≡ comes_to (Value (opened_to (flat_code prog) place to q) s)
+  opened_denote place None q s = refl
+  opened_denote place (Some item) q s = sym (item_denote place.frames item s)
+
+  opens_denote : (fits : Bool) (place : Place) (line : ℕ) (opening : Opening) (to : Option ℕ) (q : Pending) (s : State)
+      → resumed place.frames (from place.frames ((open_if fits (length place.frames) line opening (item_from (flat_code prog) (suc place.pc))
+      >> opened_then prog (flat_code prog) (rest_of place) to q) s))
+      ≡ comes_to (caught (flat_code prog) place.frames ((open_if fits (length place.frames) line opening (item_from (flat_code prog) (suc place.pc))
+      >> give (opened_to (flat_code prog) place to q)) s))
+  opens_denote false place line opening to q s =
+      no_room_denote (taker (int_eq (pos no_room) (pos 0)) s.handler) place (pos no_room) (error_text no_room) line (λ _. opened_then prog (flat_code prog) (rest_of place) to q)
+      (λ _. give (opened_to (flat_code prog) place to q)) s
+  opens_denote true place line opening to q s =
+      opened_denote place to q (record s { stored = with_opened (length place.frames) opening (item_from (flat_code prog) (suc place.pc)) s.stored })
+
   -- what an operation's effect leads to
   effect_denote : (place : Place) (r : Course Effect)
-      → resumed place.frames (from place.frames (on_value r (carry prog (flat_code prog) (level_of place.frames) (rest_of place))))
+      → resumed place.frames (from place.frames (on_value r (carry prog (flat_code prog) (level_of place.frames) (item_from (flat_code prog) (suc place.pc)) (rest_of place))))
       ≡ comes_to (caught (flat_code prog) place.frames (on_value r (follow (flat_code prog) place)))
   effect_denote place (Value (Falls q) s) = refl
   effect_denote place (Value (Goes (GoOn item)) s) = sym (item_denote place.frames item s)
   effect_denote place (Value (Goes (Leave value)) s) = left_denote place.frames value s
+  effect_denote place (Value (Opens line opening to q) s) = opens_denote (can_open s.stored) place line opening to q s
   effect_denote place (Value (Enters line kind body values q) s) =
       enters_denote (has_room (length place.frames) (length body.formals) s.stored) place line kind body values q s
   effect_denote place (Raised h s) = thrown_denote place.frames h s

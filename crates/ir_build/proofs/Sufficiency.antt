@@ -1,5 +1,5 @@
 -- No operation of a program's code lacks a value, and nothing is pending after an item.
-use Rattle.std.proofs.Common.{ℕ, ◌+◌, List, [], ◌∷◌, ◌++◌, Option, None, Some, refl, sym, subst, ◌∙◌, ap, append_assoc}
+use Rattle.std.proofs.Common.{◌≡◌, ℕ, ◌+◌, List, [], ◌∷◌, ◌++◌, Option, None, Some, refl, sym, subst, ◌∙◌, ap, append_assoc}
 use Rattle.std.specs.Prelude.{Bool, true, false}
 use Rattle.bas_ast.specs.declared.expressions.BinaryOp.{BinaryOp}
 use Rattle.bas_ast.specs.declared.expressions.BinaryOp.TheVariants as operators
@@ -12,6 +12,8 @@ use Rattle.bas_ast.specs.declared.expressions.UnaryOp.TheVariants as unary
 use Rattle.bas_ast.specs.declared.expressions.Variable.TheVariants as var
 use Rattle.bas_ast.specs.declared.lines.Item.{Item}
 use Rattle.bas_ast.specs.declared.lines.Item.TheVariants as item
+use Rattle.bas_ast.specs.declared.lines.Jump.{Jump}
+use Rattle.bas_ast.specs.declared.lines.Jump.TheVariants as jumps
 use Rattle.bas_ast.specs.declared.program.Prog.{Prog}
 use Rattle.bas_ast.specs.declared.statements.Assignment.{Assignment}
 use Rattle.bas_ast.specs.declared.statements.Assignment.TheVariants as assigns
@@ -30,117 +32,203 @@ use Rattle.bas_ir.specs.declared.ir.Height.{Height}
 use Rattle.bas_ir.specs.declared.op.Op.{Op}
 use Rattle.bas_ir.specs.declared.op.Op.TheVariants as o
 use Rattle.bas_ir.specs.declared.op.Piece.TheVariants as pieces
-use Rattle.bas_ir.specs.Heights.{Suffices, one_more, empty_height}
+use Rattle.bas_ir.specs.Heights.{Suffices, one_more, empty_height, height_after}
 use Rattle.bas_store.specs.Cells.{Cell, Resident, Integer, integer_cell}
-use Rattle.bas_sem.specs.Places.{Row, line_place, else_place}
-use Rattle.ir_build.specs.Code.{unary_code, read_op, store_op, expr_code, text_code, assignment_code, go_op, flow_op, print_code, vdu_code, output_code, statement_code, item_code, or_jump, row_code}
+use Rattle.bas_sem.specs.Places.{Row, line_place, else_place, on_else, after_endwhile}
+use Rattle.ir_build.specs.Code.{unary_code, read_op, store_op, expr_code, text_code, assignment_code, go_op, gosub_op, counter_of, step_code, nexts_code, next_code, flow_code, choice_op, choices_code, otherwise_op, print_code, vdu_code, output_code, statement_code, item_code, or_jump, row_code}
 
 -- the operations find what they take, after this height
 abbrev pub Enough : List Op → Height → Type 0
 Enough ops h = Suffices [] ops (Some h)
 
+-- after a height, an operation that goes on at an item leaves nothing pending there
+abbrev pub LeavesAt : Op → Height → Type 0
+LeavesAt (o.Go item) h = h ≡ empty_height
+LeavesAt (o.GoIfZero item) h = height_after [] (o.GoIfZero item) h ≡ Some empty_height
+LeavesAt (o.GoIfOne item) h = height_after [] (o.GoIfOne item) h ≡ Some (one_more empty_height)
+LeavesAt (o.GosubIfOne item line) h = height_after [] (o.GosubIfOne item line) h ≡ Some (one_more empty_height)
+LeavesAt (o.Gosub item line) h = h ≡ empty_height
+LeavesAt (o.Next counter line) h = h ≡ empty_height
+LeavesAt (o.NextAny line) h = h ≡ empty_height
+LeavesAt (o.Until line) h = height_after [] (o.Until line) h ≡ Some empty_height
+LeavesAt (o.EndWhile line) h = h ≡ empty_height
+LeavesAt (o.Return line) h = h ≡ empty_height
+LeavesAt _ h = Unit {0}
+
+-- The operations find what they take, after a height; what goes on at an item leaves nothing pending there, and nor do they all.
+abbrev pub Balances : List Op → Option Height → Type 0
+Balances ops None = ⊥
+Balances [] (Some h) = (h.numbers ≡ 0) × (h.texts ≡ 0)
+Balances (op ∷ ops) (Some h) = LeavesAt op h × Balances ops (height_after [] op h)
+
+pub balance_suffices : (ops : List Op) (h : Option Height) → Balances ops h → Suffices [] ops h
+balance_suffices ops None balances = absurd balances
+balance_suffices [] (Some h) balances = balances
+balance_suffices (op ∷ ops) (Some h) balances = balance_suffices ops (height_after [] op h) balances.1
+
+-- from a height, and with nothing pending
+abbrev From : List Op → Height → Type 0
+From ops h = Balances ops (Some h)
+
+abbrev Whole : List Op → Type 0
+Whole ops = Balances ops (Some empty_height)
+
 module _ (prog : Prog) (line : ℕ) where
-  read_suffices : (cell : Cell) (ops : List Op) (h : Height) → Enough ops (one_more h) → Enough (read_op line cell ∷ ops) h
-  read_suffices (Resident index) ops h suffices = suffices
-  read_suffices (Integer name) ops h suffices = suffices
+  read_balances : (cell : Cell) (ops : List Op) (h : Height) → From ops (one_more h) → From (read_op line cell ∷ ops) h
+  read_balances (Resident index) ops h rest = (tt, rest)
+  read_balances (Integer name) ops h rest = (tt, rest)
 
-  store_suffices : (cell : Cell) (ops : List Op) (h : Height) → Enough ops h → Enough (store_op cell ∷ ops) (one_more h)
-  store_suffices (Resident index) ops h suffices = suffices
-  store_suffices (Integer name) ops h suffices = suffices
+  store_balances : (cell : Cell) (ops : List Op) (h : Height) → From ops h → From (store_op cell ∷ ops) (one_more h)
+  store_balances (Resident index) ops h rest = (tt, rest)
+  store_balances (Integer name) ops h rest = (tt, rest)
 
-  unary_suffices : (op : UnaryOp) (ops : List Op) (h : Height) → Enough ops (one_more h) → Enough (unary_code line op ++ ops) (one_more h)
-  unary_suffices unary.Plus ops h suffices = suffices
-  unary_suffices unary.Minus ops h suffices = suffices
-  unary_suffices unary.Not ops h suffices = suffices
-  unary_suffices unary.Abs ops h suffices = suffices
-  unary_suffices unary.Sgn ops h suffices = suffices
-  unary_suffices unary.Int ops h suffices = suffices
+  unary_balances : (op : UnaryOp) (ops : List Op) (h : Height) → From ops (one_more h) → From (unary_code line op ++ ops) (one_more h)
+  unary_balances unary.Plus ops h rest = rest
+  unary_balances unary.Minus ops h rest = (tt, rest)
+  unary_balances unary.Not ops h rest = (tt, rest)
+  unary_balances unary.Abs ops h rest = (tt, rest)
+  unary_balances unary.Sgn ops h rest = (tt, rest)
+  unary_balances unary.Int ops h rest = rest
 
-  expr_suffices : (x : NumExpr) (ops : List Op) (h : Height) → Enough ops (one_more h) → Enough (expr_code prog line x ++ ops) h
+  expr_balances : (x : NumExpr) (ops : List Op) (h : Height) → From ops (one_more h) → From (expr_code prog line x ++ ops) h
   unfolding expr_code
-  expr_suffices (num.Number value) ops h suffices = suffices
-  expr_suffices num.True ops h suffices = suffices
-  expr_suffices num.False ops h suffices = suffices
-  expr_suffices num.Count ops h suffices = suffices
-  expr_suffices (num.Variable (var.Simple name)) ops h suffices = read_suffices (integer_cell prog.names name) ops h suffices
-  expr_suffices (num.Bracket' _ (held x _)) ops h suffices = expr_suffices x ops h suffices
-  expr_suffices (num.Unary' op _ (held x _)) ops h suffices =
-      subst (λ l. Enough l h) (sym (append_assoc (expr_code prog line x) (unary_code line op) ops)) (expr_suffices x (unary_code line op ++ ops) h (unary_suffices op ops h suffices))
-  expr_suffices (num.Binary' op _ (held x _) _ (held y _)) ops h suffices =
-      subst (λ l. Enough l h)
+  expr_balances (num.Number value) ops h rest = (tt, rest)
+  expr_balances num.True ops h rest = (tt, rest)
+  expr_balances num.False ops h rest = (tt, rest)
+  expr_balances num.Count ops h rest = (tt, rest)
+  expr_balances (num.Variable (var.Simple name)) ops h rest = read_balances (integer_cell prog.names name) ops h rest
+  expr_balances (num.Bracket' _ (held x _)) ops h rest = expr_balances x ops h rest
+  expr_balances (num.Unary' op _ (held x _)) ops h rest =
+      subst (λ l. From l h) (sym (append_assoc (expr_code prog line x) (unary_code line op) ops)) (expr_balances x (unary_code line op ++ ops) h (unary_balances op ops h rest))
+  expr_balances (num.Binary' op _ (held x _) _ (held y _)) ops h rest =
+      subst (λ l. From l h)
       (sym (append_assoc (expr_code prog line x) (expr_code prog line y ++ o.Binary op line ∷ []) ops
       ∙ ap (λ l. expr_code prog line x ++ l) (append_assoc (expr_code prog line y) (o.Binary op line ∷ []) ops)))
-      (expr_suffices x (expr_code prog line y ++ o.Binary op line ∷ ops) h (expr_suffices y (o.Binary op line ∷ ops) (one_more h) suffices))
-  expr_suffices _ ops h suffices = suffices
+      (expr_balances x (expr_code prog line y ++ o.Binary op line ∷ ops) h (expr_balances y (o.Binary op line ∷ ops) (one_more h) (tt, rest)))
+  expr_balances _ ops h rest = (tt, (tt, rest))
 
-  text_suffices : (x : StrExpr) (ops : List Op) (h : Height) → Enough ops h → Enough (text_code x ++ ops) h
-  text_suffices (str.Literal number) ops h suffices = suffices
-  text_suffices _ ops h suffices = suffices
+  text_balances : (x : StrExpr) (ops : List Op) (h : Height) → From ops h → From (text_code x ++ ops) h
+  text_balances (str.Literal number) ops h rest = (tt, (tt, rest))
+  text_balances _ ops h rest = (tt, rest)
 
-  updated_suffices : (op : BinaryOp) (cell : Cell) (x : NumExpr) → Enough (read_op line cell ∷ (expr_code prog line x ++ o.Binary op line ∷ store_op cell ∷ [])) empty_height
-  updated_suffices op cell x =
-      read_suffices cell (expr_code prog line x ++ o.Binary op line ∷ store_op cell ∷ []) empty_height
-      (expr_suffices x (o.Binary op line ∷ store_op cell ∷ []) (one_more empty_height) (store_suffices cell [] empty_height (refl, refl)))
+  updated_balances : (op : BinaryOp) (cell : Cell) (x : NumExpr) → Whole (read_op line cell ∷ (expr_code prog line x ++ o.Binary op line ∷ store_op cell ∷ []))
+  updated_balances op cell x =
+      read_balances cell (expr_code prog line x ++ o.Binary op line ∷ store_op cell ∷ []) empty_height
+      (expr_balances x (o.Binary op line ∷ store_op cell ∷ []) (one_more empty_height) (tt, store_balances cell [] empty_height (refl, refl)))
 
-  assignment_suffices : (a : Assignment) → Enough (assignment_code prog line a) empty_height
-  assignment_suffices (assigns.Number (target.Variable (var.Simple name)) x) =
-      expr_suffices x (store_op (integer_cell prog.names name) ∷ []) empty_height (store_suffices (integer_cell prog.names name) [] empty_height (refl, refl))
-  assignment_suffices (assigns.Add (target.Variable (var.Simple name)) x) = updated_suffices operators.Add (integer_cell prog.names name) x
-  assignment_suffices (assigns.Subtract (target.Variable (var.Simple name)) x) = updated_suffices operators.Subtract (integer_cell prog.names name) x
-  assignment_suffices _ = (refl, refl)
+  assignment_balances : (a : Assignment) → Whole (assignment_code prog line a)
+  assignment_balances (assigns.Number (target.Variable (var.Simple name)) x) =
+      expr_balances x (store_op (integer_cell prog.names name) ∷ []) empty_height (store_balances (integer_cell prog.names name) [] empty_height (refl, refl))
+  assignment_balances (assigns.Add (target.Variable (var.Simple name)) x) = updated_balances operators.Add (integer_cell prog.names name) x
+  assignment_balances (assigns.Subtract (target.Variable (var.Simple name)) x) = updated_balances operators.Subtract (integer_cell prog.names name) x
+  assignment_balances _ = (tt, (refl, refl))
 
-  go_suffices : (to : Option ℕ) → Enough (go_op to line ∷ []) empty_height
-  go_suffices None = (refl, refl)
-  go_suffices (Some place) = (refl, refl)
+  go_balances : (to : Option ℕ) → Whole (go_op to line ∷ [])
+  go_balances None = (tt, (refl, refl))
+  go_balances (Some place) = (refl, (refl, refl))
 
-  flow_suffices : (w : Flow) → Enough (flow_op prog line w ∷ []) empty_height
-  flow_suffices (flow.Goto number) = go_suffices (line_place prog number)
-  flow_suffices flow.Stop = (refl, refl)
-  flow_suffices _ = (refl, refl)
+  gosub_balances : (to : Option ℕ) → Whole (gosub_op to line ∷ [])
+  gosub_balances None = (tt, (refl, refl))
+  gosub_balances (Some place) = (refl, (refl, refl))
 
-  print_suffices : (padded new_line : Bool) (parts : List PrintPart) → Enough (print_code prog line padded new_line parts) empty_height
+  nexts_balance : (names : List ℕ) → Whole (nexts_code prog line names)
+  nexts_balance [] = (refl, refl)
+  nexts_balance (name ∷ names) = (refl, nexts_balance names)
+
+  next_balances : (names : List ℕ) → Whole (next_code prog line names)
+  next_balances [] = (refl, (refl, refl))
+  next_balances (name ∷ names) = nexts_balance (name ∷ names)
+
+  step_balances : (z : Option NumExpr) (ops : List Op) (h : Height) → From ops (one_more h) → From (step_code prog line z ++ ops) h
+  step_balances None ops h rest = (tt, rest)
+  step_balances (Some x) ops h rest = expr_balances x ops h rest
+
+  flow_balances : (place : ℕ) (w : Flow) → Whole (flow_code prog place line w)
+  flow_balances place (flow.Goto number) = go_balances (line_place prog number)
+  flow_balances place (flow.Gosub number) = gosub_balances (line_place prog number)
+  flow_balances place flow.Return = (refl, (refl, refl))
+  flow_balances place (flow.For name x y z) =
+      let cell : Cell = integer_cell prog.names name in
+      let opens : List Op = o.OpenFor (counter_of cell) line ∷ [] in
+      let limit : List Op = expr_code prog line y ++ (step_code prog line z ++ opens) in
+      expr_balances x (store_op cell ∷ limit) empty_height
+      (store_balances cell limit empty_height
+      (expr_balances y (step_code prog line z ++ opens) empty_height (step_balances z opens (one_more empty_height) (tt, (refl, refl)))))
+  flow_balances place (flow.Next names) = next_balances names
+  flow_balances place (flow.Until x) = expr_balances x (o.Until line ∷ []) empty_height (refl, (refl, refl))
+  flow_balances place (flow.While x) = expr_balances x (o.GoIfZero (after_endwhile prog place) ∷ o.OpenWhile line ∷ []) empty_height (refl, (tt, (refl, refl)))
+  flow_balances place flow.EndWhile = (refl, (refl, refl))
+  flow_balances place flow.End = (tt, (refl, refl))
+  flow_balances place flow.Stop = (tt, (refl, refl))
+  flow_balances place flow.Quit = (tt, (refl, refl))
+
+  print_balances : (padded new_line : Bool) (parts : List PrintPart) → Whole (print_code prog line padded new_line parts)
   unfolding print_code
-  print_suffices padded true [] = (refl, refl)
-  print_suffices padded false [] = (refl, refl)
-  print_suffices padded new_line (prints.Comma ∷ parts) = print_suffices true true parts
-  print_suffices padded new_line (prints.Semicolon ∷ parts) = print_suffices false false parts
-  print_suffices padded new_line (prints.NewLine ∷ parts) = print_suffices padded true parts
-  print_suffices padded new_line (prints.Number format x ∷ parts) =
-      expr_suffices x (o.WriteNumber padded format ∷ print_code prog line padded true parts) empty_height (print_suffices padded true parts)
-  print_suffices padded new_line (prints.Text x ∷ parts) = text_suffices x (print_code prog line padded true parts) empty_height (print_suffices padded true parts)
-  print_suffices padded new_line (prints.Spaces x ∷ parts) =
-      expr_suffices x (o.Write pieces.Spaces ∷ print_code prog line padded true parts) empty_height (print_suffices padded true parts)
-  print_suffices padded new_line (prints.Tab x ∷ parts) = expr_suffices x (o.Write pieces.Tab ∷ print_code prog line padded true parts) empty_height (print_suffices padded true parts)
+  print_balances padded true [] = (tt, (refl, refl))
+  print_balances padded false [] = (refl, refl)
+  print_balances padded new_line (prints.Comma ∷ parts) = (tt, print_balances true true parts)
+  print_balances padded new_line (prints.Semicolon ∷ parts) = print_balances false false parts
+  print_balances padded new_line (prints.NewLine ∷ parts) = (tt, print_balances padded true parts)
+  print_balances padded new_line (prints.Number format x ∷ parts) =
+      expr_balances x (o.WriteNumber padded format ∷ print_code prog line padded true parts) empty_height (tt, print_balances padded true parts)
+  print_balances padded new_line (prints.Text x ∷ parts) = text_balances x (print_code prog line padded true parts) empty_height (print_balances padded true parts)
+  print_balances padded new_line (prints.Spaces x ∷ parts) =
+      expr_balances x (o.Write pieces.Spaces ∷ print_code prog line padded true parts) empty_height (tt, print_balances padded true parts)
+  print_balances padded new_line (prints.Tab x ∷ parts) =
+      expr_balances x (o.Write pieces.Tab ∷ print_code prog line padded true parts) empty_height (tt, print_balances padded true parts)
 
-  vdu_suffices : (parts : List VduPart) → Enough (vdu_code prog line parts) empty_height
+  vdu_balances : (parts : List VduPart) → Whole (vdu_code prog line parts)
   unfolding vdu_code
-  vdu_suffices [] = (refl, refl)
-  vdu_suffices (sends.Byte x ∷ parts) = expr_suffices x (o.Write pieces.Byte ∷ vdu_code prog line parts) empty_height (vdu_suffices parts)
-  vdu_suffices (sends.Word x ∷ parts) = expr_suffices x (o.Write pieces.Word ∷ vdu_code prog line parts) empty_height (vdu_suffices parts)
+  vdu_balances [] = (refl, refl)
+  vdu_balances (sends.Byte x ∷ parts) = expr_balances x (o.Write pieces.Byte ∷ vdu_code prog line parts) empty_height (tt, vdu_balances parts)
+  vdu_balances (sends.Word x ∷ parts) = expr_balances x (o.Write pieces.Word ∷ vdu_code prog line parts) empty_height (tt, vdu_balances parts)
 
-  output_suffices : (w : Output) → Enough (output_code prog line w) empty_height
-  output_suffices (writes.Print parts) = print_suffices true true parts
-  output_suffices (writes.Vdu parts) = vdu_suffices parts
-  output_suffices (writes.Mode x) = expr_suffices x (o.Write pieces.Mode ∷ []) empty_height (refl, refl)
-  output_suffices (writes.Colour x) = expr_suffices x (o.Write pieces.Colour ∷ []) empty_height (refl, refl)
-  output_suffices writes.Cls = (refl, refl)
+  output_balances : (w : Output) → Whole (output_code prog line w)
+  output_balances (writes.Print parts) = print_balances true true parts
+  output_balances (writes.Vdu parts) = vdu_balances parts
+  output_balances (writes.Mode x) = expr_balances x (o.Write pieces.Mode ∷ []) empty_height (tt, (refl, refl))
+  output_balances (writes.Colour x) = expr_balances x (o.Write pieces.Colour ∷ []) empty_height (tt, (refl, refl))
+  output_balances writes.Cls = (tt, (refl, refl))
 
-  statement_suffices : (x : Stmt) → Enough (statement_code prog line x) empty_height
-  statement_suffices (stmt.Assign a) = assignment_suffices a
-  statement_suffices (stmt.Flow w) = flow_suffices w
-  statement_suffices (stmt.Output w) = output_suffices w
-  statement_suffices _ = (refl, refl)
+  statement_balances : (place : ℕ) (x : Stmt) → Whole (statement_code prog place line x)
+  statement_balances place (stmt.Assign a) = assignment_balances a
+  statement_balances place (stmt.Flow w) = flow_balances place w
+  statement_balances place (stmt.Output w) = output_balances w
+  statement_balances place _ = (tt, (refl, refl))
 
-  item_suffices : (place : ℕ) (i : Item) → Enough (item_code prog place line i) empty_height
-  item_suffices place (item.Stmt x) = statement_suffices x
-  item_suffices place (item.If x) = expr_suffices x (o.GoIfZero (else_place prog place) ∷ []) empty_height (refl, refl)
-  item_suffices place item.Else = (refl, refl)
-  item_suffices place item.Remark = (refl, refl)
-  item_suffices place _ = (refl, refl)
+  choice_balances : (jump : Jump) (to : Option ℕ) (ops : List Op) → From ops (one_more empty_height) → From (choice_op jump to line ∷ ops) (one_more empty_height)
+  choice_balances jump None ops rest = (tt, rest)
+  choice_balances jumps.Goto (Some place) ops rest = (refl, rest)
+  choice_balances jumps.Gosub (Some place) ops rest = (refl, rest)
 
-jump_suffices : (next : ℕ) (ops : List Op) → Enough ops empty_height → Enough (or_jump next ops) empty_height
-jump_suffices next [] suffices = suffices
-jump_suffices next (op ∷ ops) suffices = suffices
+  otherwise_balances : (to : Option ℕ) → Whole (otherwise_op to line ∷ [])
+  otherwise_balances None = (tt, (refl, refl))
+  otherwise_balances (Some place) = (refl, (refl, refl))
+
+  choices_balance : (jump : Jump) (numbers : List ℕ) (ops : List Op) → From ops (one_more empty_height) → From (choices_code prog line jump numbers ++ ops) (one_more empty_height)
+  choices_balance jump [] ops rest = rest
+  choices_balance jump (number ∷ numbers) ops rest =
+      choice_balances jump (line_place prog number) (choices_code prog line jump numbers ++ ops) (choices_balance jump numbers ops rest)
+
+  item_balances : (place : ℕ) (i : Item) → Whole (item_code prog place line i)
+  item_balances place (item.Stmt x) = statement_balances place x
+  item_balances place (item.If x) = expr_balances x (o.GoIfZero (else_place prog place) ∷ []) empty_height (refl, (refl, refl))
+  item_balances place (item.On x jump numbers) =
+      let otherwise : List Op = o.Discard ∷ otherwise_op (on_else prog place) line ∷ [] in
+      expr_balances x (choices_code prog line jump numbers ++ otherwise) empty_height
+      (choices_balance jump numbers otherwise (tt, otherwise_balances (on_else prog place)))
+  item_balances place item.Repeat = (tt, (refl, refl))
+  item_balances place item.Else = (refl, (refl, refl))
+  item_balances place item.Remark = (refl, refl)
+  item_balances place _ = (tt, (refl, refl))
+
+jump_balances : (next : ℕ) (ops : List Op) → Whole ops → Whole (or_jump next ops)
+jump_balances next [] balances = (refl, balances)
+jump_balances next (op ∷ ops) balances = balances
+
+-- the code of an item
+pub row_balances : (prog : Prog) (place : ℕ) (row : Row) → Balances (row_code prog place row) (Some empty_height)
+row_balances prog place row = jump_balances (place + 1) (item_code prog place row.line row.item) (item_balances prog row.line place row.item)
 
 pub row_suffices : (prog : Prog) (place : ℕ) (row : Row) → Enough (row_code prog place row) empty_height
-row_suffices prog place row = jump_suffices (place + 1) (item_code prog place row.line row.item) (item_suffices prog row.line place row.item)
+row_suffices prog place row = balance_suffices (row_code prog place row) (Some empty_height) (row_balances prog place row)

@@ -1,5 +1,5 @@
 -- How the tables of the flat code grow: item by item, and line by line.
-use Rattle.std.proofs.Common.{◌≡◌, ℕ, suc, ◌+◌, ◌-◌, ◌<◌, Bool, true, false, List, [], ◌∷◌, ◌++◌, Some, length, map, get_or, drop, refl, sym, ap, subst, ◌∙◌, arith, append_assoc, length-append}
+use Rattle.std.proofs.Common.{◌≡◌, ℕ, suc, ◌+◌, ◌-◌, ◌<◌, Bool, true, false, List, [], ◌∷◌, ◌++◌, Some, length, get_or, drop, refl, sym, ap, subst, ◌∙◌, arith, append_assoc, length-append}
 use Rattle.std.proofs.lemmas.Bool.{lt-ltb, le-ltb}
 use Rattle.std.proofs.lemmas.List.{append-nil, at_drop_more, drop_more, length-map}
 use Rattle.std.specs.Prelude.{flat_map, if◌then◌else◌}
@@ -12,17 +12,13 @@ use Rattle.bas_ir.specs.declared.op.Op.{Op}
 use Rattle.bas_ir.specs.declared.op.Op.TheVariants as o
 use Rattle.bas_sem.specs.Places.{Row, rows, rest_among, rest_of_line}
 use Rattle.ir_build.specs.Code.{row_code, codes_from, codes, joined, joined_marks, unmarked_all, marks_of, starts_from, start_at, line_starts_from, heights_of}
-use Rattle.ir_build.specs.Tables.{no_tables, with_codes, line_rows}
+use Rattle.ir_build.specs.Tables.{no_tables, with_codes, rows_of, line_rows}
 use Rattle.ir_build.specs.declared.tables.Tables.{Tables}
 
 -- the marks of what is left of an item's operations
 abbrev pub marks_left : Bool → List Op → List Bool
 marks_left true ops = marks_of ops
 marks_left false ops = unmarked_all ops
-
--- items with the number of their line
-abbrev pub rows_of : ℕ → List Item → List Row
-rows_of number items = map (λ item. record { line = number; item = item }) items
 
 same_tables : (a b : Tables) → a.ops ≡ b.ops → a.marks ≡ b.marks → a.starts ≡ b.starts → a.heights ≡ b.heights → a ≡ b
 same_tables a b ops marks starts heights = λ i. record { ops = ops i; marks = marks i; starts = starts i; heights = heights i }

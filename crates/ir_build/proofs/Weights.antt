@@ -108,13 +108,13 @@ module _ (prog : Prog) (line : ℕ) where
   unfolding vdu_code
   vdu_light x = ends_light (plain_weight x) (expr_code prog line x) (o.Write pieces.Byte) (expr_light x) refl
 
-  statement_light : (s : Stmt) → LightItem (statement_weight prog s) (statement_code prog line s)
-  statement_light (stmt.Assign (assigns.Number (target.Variable (var.Simple name)) x)) =
+  statement_light : (place : ℕ) (s : Stmt) → LightItem (statement_weight prog s) (statement_code prog place line s)
+  statement_light place (stmt.Assign (assigns.Number (target.Variable (var.Simple name)) x)) =
       stored_light (plain_weight x) (expr_code prog line x) (integer_cell prog.names name) (expr_light x)
-  statement_light (stmt.Flow (flow.Goto number)) = goto_light (line_place prog number)
-  statement_light (stmt.Flow flow.End) = (omega arith, refl)
-  statement_light (stmt.Output (writes.Vdu (sends.Byte x ∷ []))) = vdu_light x
-  statement_light _ = tt
+  statement_light place (stmt.Flow (flow.Goto number)) = goto_light (line_place prog number)
+  statement_light place (stmt.Flow flow.End) = (omega arith, refl)
+  statement_light place (stmt.Output (writes.Vdu (sends.Byte x ∷ []))) = vdu_light x
+  statement_light place _ = tt
 
   jump_light : (place : ℕ) (w : Option ℕ) (code : List Op) → LightItem w code → LightItem w (or_jump (place + 1) code)
   jump_light place None code light = tt
@@ -122,7 +122,7 @@ module _ (prog : Prog) (line : ℕ) where
   jump_light place (Some n) (op ∷ ops) light = light
 
   item_light : (place : ℕ) (i : Item) → LightItem (item_weight prog i) (or_jump (place + 1) (item_code prog place line i))
-  item_light place (item.Stmt s) = jump_light place (statement_weight prog s) (statement_code prog line s) (statement_light s)
+  item_light place (item.Stmt s) = jump_light place (statement_weight prog s) (statement_code prog place line s) (statement_light place s)
   item_light place (item.If x) =
       jump_light place (plain_weight x) (expr_code prog line x ++ o.GoIfZero (else_place prog place) ∷ [])
       (ends_light (plain_weight x) (expr_code prog line x) (o.GoIfZero (else_place prog place)) (expr_light x) refl)

@@ -10,6 +10,8 @@ use Rattle.bas_ast.specs.declared.expressions.UnaryOp.TheVariants as unary
 use Rattle.bas_ast.specs.declared.expressions.Variable.TheVariants as var
 use Rattle.bas_ast.specs.declared.lines.Item.{Item}
 use Rattle.bas_ast.specs.declared.lines.Item.TheVariants as item
+use Rattle.bas_ast.specs.declared.lines.Jump.{Jump}
+use Rattle.bas_ast.specs.declared.lines.Jump.TheVariants as jumps
 use Rattle.bas_ast.specs.declared.program.Prog.{Prog}
 use Rattle.bas_ast.specs.declared.program.ProgLine.{ProgLine}
 use Rattle.bas_ast.specs.declared.statements.Assignment.{Assignment}
@@ -28,14 +30,16 @@ use Rattle.bas_ast.specs.declared.targets.NumTarget.TheVariants as target
 use Rattle.bas_ir.specs.declared.ir.Height.{Height}
 use Rattle.bas_ir.specs.declared.ir.Ir.{Ir}
 use Rattle.bas_ir.specs.declared.ir.LineStart.{LineStart}
+use Rattle.bas_ir.specs.declared.op.Counter.{Counter}
+use Rattle.bas_ir.specs.declared.op.Counter.TheVariants as counters
 use Rattle.bas_ir.specs.declared.op.Mark.TheVariants as marks
 use Rattle.bas_ir.specs.declared.op.Op.{Op}
 use Rattle.bas_ir.specs.declared.op.Op.TheVariants as o
 use Rattle.bas_ir.specs.declared.op.Piece.TheVariants as pieces
 use Rattle.bas_ir.specs.Heights.{height_after, empty_height}
 use Rattle.bas_store.specs.Cells.{Cell, Resident, Integer, integer_cell}
-use Rattle.bas_value.specs.Errors.{no_such_line, stopped}
-use Rattle.bas_sem.specs.Places.{Row, rows, next_line, else_place, line_place}
+use Rattle.bas_value.specs.Errors.{no_such_line, on_range, stopped}
+use Rattle.bas_sem.specs.Places.{Row, rows, next_line, else_place, on_else, after_endwhile, line_place}
 
 -- Reads and stores of an integer.
 abbrev pub read_op : ℕ → Cell → Op
@@ -88,11 +92,70 @@ abbrev pub go_op : Option ℕ → ℕ → Op
 go_op None line = o.Raise no_such_line line
 go_op (Some place) line = o.Go place
 
--- GOTO, STOP, END and QUIT
-abbrev pub flow_op : Prog → ℕ → Flow → Op
-flow_op prog line (flow.Goto number) = go_op (line_place prog number) line
-flow_op prog line flow.Stop = o.Raise stopped line
-flow_op prog line _ = o.End
+-- GOSUB
+abbrev pub gosub_op : Option ℕ → ℕ → Op
+gosub_op None line = o.Raise no_such_line line
+gosub_op (Some place) line = o.Gosub place line
+
+-- the variable of a FOR
+abbrev pub counter_of : Cell → Counter
+counter_of (Resident index) = counters.Resident index
+counter_of (Integer name) = counters.Integer name
+
+-- the step of FOR, 1 where it has none
+abbrev pub step_code : Prog → ℕ → Option NumExpr → List Op
+step_code prog line None = o.Push (pos 1) ∷ []
+step_code prog line (Some x) = expr_code prog line x
+
+-- FOR of a variable's cell: the start is stored before the limit and the step are evaluated
+abbrev pub for_code : Prog → ℕ → Cell → NumExpr → NumExpr → Option NumExpr → List Op
+for_code prog line cell x y z =
+    expr_code prog line x ++ store_op cell ∷ (expr_code prog line y ++ (step_code prog line z ++ o.OpenFor (counter_of cell) line ∷ []))
+
+-- NEXT of each of these variables
+abbrev pub nexts_code : Prog → ℕ → List ℕ → List Op
+nexts_code prog line [] = []
+nexts_code prog line (name ∷ names) = o.Next (counter_of (integer_cell prog.names name)) line ∷ nexts_code prog line names
+
+-- NEXT, with the variables that it has
+abbrev pub next_code : Prog → ℕ → List ℕ → List Op
+next_code prog line [] = o.NextAny line ∷ []
+next_code prog line (name ∷ names) = nexts_code prog line (name ∷ names)
+
+-- What says where the run goes on, at a place. WHILE with 0 jumps past its ENDWHILE, and else opens.
+abbrev pub flow_code : Prog → ℕ → ℕ → Flow → List Op
+flow_code prog place line (flow.Goto number) = go_op (line_place prog number) line ∷ []
+flow_code prog place line (flow.Gosub number) = gosub_op (line_place prog number) line ∷ []
+flow_code prog place line flow.Return = o.Return line ∷ []
+flow_code prog place line (flow.For name x y z) = for_code prog line (integer_cell prog.names name) x y z
+flow_code prog place line (flow.Next names) = next_code prog line names
+flow_code prog place line (flow.Until x) = expr_code prog line x ++ o.Until line ∷ []
+flow_code prog place line (flow.While x) = expr_code prog line x ++ o.GoIfZero (after_endwhile prog place) ∷ o.OpenWhile line ∷ []
+flow_code prog place line flow.EndWhile = o.EndWhile line ∷ []
+flow_code prog place line flow.End = o.End ∷ []
+flow_code prog place line flow.Stop = o.Raise stopped line ∷ []
+flow_code prog place line flow.Quit = o.End ∷ []
+
+-- A line of ON, which is chosen where the number has come down to 1.
+abbrev pub choice_op : Jump → Option ℕ → ℕ → Op
+choice_op jump None line = o.RaiseIfOne no_such_line line
+choice_op jumps.Goto (Some place) line = o.GoIfOne place
+choice_op jumps.Gosub (Some place) line = o.GosubIfOne place line
+
+-- the lines of ON
+abbrev pub choices_code : Prog → ℕ → Jump → List ℕ → List Op
+choices_code prog line jump [] = []
+choices_code prog line jump (number ∷ numbers) = choice_op jump (line_place prog number) line ∷ choices_code prog line jump numbers
+
+-- ON whose number has no line goes on after its ELSE, if there is one
+abbrev pub otherwise_op : Option ℕ → ℕ → Op
+otherwise_op None line = o.Raise on_range line
+otherwise_op (Some place) line = o.Go place
+
+-- ON at a place
+abbrev pub on_code : Prog → ℕ → ℕ → NumExpr → Jump → List ℕ → List Op
+on_code prog place line x jump numbers =
+    expr_code prog line x ++ (choices_code prog line jump numbers ++ o.Discard ∷ otherwise_op (on_else prog place) line ∷ [])
 
 -- a new line where it is wanted
 abbrev pub finish_code : Bool → List Op
@@ -126,17 +189,19 @@ output_code prog line (writes.Mode x) = expr_code prog line x ++ o.Write pieces.
 output_code prog line (writes.Colour x) = expr_code prog line x ++ o.Write pieces.Colour ∷ []
 output_code prog line writes.Cls = o.WriteMark marks.Clear ∷ []
 
--- a plain statement
-abbrev pub statement_code : Prog → ℕ → Stmt → List Op
-statement_code prog line (stmt.Assign a) = assignment_code prog line a
-statement_code prog line (stmt.Flow f) = flow_op prog line f ∷ []
-statement_code prog line (stmt.Output w) = output_code prog line w
-statement_code prog line _ = o.End ∷ []
+-- a plain statement at a place
+abbrev pub statement_code : Prog → ℕ → ℕ → Stmt → List Op
+statement_code prog place line (stmt.Assign a) = assignment_code prog line a
+statement_code prog place line (stmt.Flow f) = flow_code prog place line f
+statement_code prog place line (stmt.Output w) = output_code prog line w
+statement_code prog place line _ = o.End ∷ []
 
 -- An item at a place. What goes on with the next item falls through to it.
 abbrev pub item_code : Prog → ℕ → ℕ → Item → List Op
-item_code prog place line (item.Stmt s) = statement_code prog line s
+item_code prog place line (item.Stmt s) = statement_code prog place line s
 item_code prog place line (item.If x) = expr_code prog line x ++ o.GoIfZero (else_place prog place) ∷ []
+item_code prog place line (item.On x jump numbers) = on_code prog place line x jump numbers
+item_code prog place line item.Repeat = o.OpenRepeat line ∷ []
 item_code prog place line item.Else = o.Go (next_line prog place) ∷ []
 item_code prog place line item.Remark = []
 item_code prog place line _ = o.End ∷ []

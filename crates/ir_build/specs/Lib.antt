@@ -1,3 +1,4 @@
 pub mod Code
 pub mod Weight
 pub mod Tables
+pub mod Ends

@@ -1,5 +1,6 @@
 -- The tables of the flat code as items are added. This project's own.
-use Rattle.std.specs.Prelude.{[], ◌++◌, List, Some, length, map, flat_map}
+use Rattle.std.specs.Prelude.{ℕ, [], ◌++◌, List, Some, length, map, flat_map}
+use Rattle.bas_ast.specs.declared.lines.Item.{Item}
 use Rattle.bas_ast.specs.declared.program.ProgLine.{ProgLine}
 use Rattle.bas_ir.specs.Heights.{empty_height}
 use Rattle.bas_ir.specs.declared.op.Op.{Op}
@@ -20,6 +21,14 @@ with_codes tables codes = record {
   heights = tables.heights ++ flat_map (heights_of (Some empty_height)) codes;
 }
 
+-- items with the number of their line
+abbrev pub rows_of : ℕ → List Item → List Row
+rows_of number items = map (λ item. record { line = number; item = item }) items
+
 -- the items of a line, each with the line's number
 abbrev pub line_rows : ProgLine → List Row
-line_rows line = map (λ item. record { line = line.number; item = item }) line.items
+line_rows line = rows_of line.number line.items
+
+-- the items of lines
+abbrev pub rows_among : List ProgLine → List Row
+rows_among lines = flat_map line_rows lines

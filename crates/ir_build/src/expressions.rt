@@ -8,7 +8,7 @@ ghost use Rattle.ir_build.specs.Code as spec;
 
 use crate::ops::put;
 use bas_ast::{NumExpr, Prog, StrExpr, UnaryOp, Variable};
-use bas_ir::Op;
+use bas_ir::{Counter, Op};
 use bv_base::NoMemory;
 use sqlite_items::Items;
 
@@ -40,6 +40,16 @@ pub fn read_op(prog: &Prog, line: u16, name: u16) -> Op
     match resident(prog, name) {
         Some(index) => Op::PushResident(index),
         None => Op::PushInteger { name, line },
+    }
+}
+
+/// The variable of a FOR.
+pub fn counter(prog: &Prog, name: u16) -> Counter
+    ensures { result ≡ spec.counter_of (cells.integer_cell prog.now.names name) }
+{
+    match resident(prog, name) {
+        Some(index) => Counter::Resident(index),
+        None => Counter::Integer(name),
     }
 }
 

@@ -83,6 +83,16 @@ fn after_binary(height: Height) -> Result<Option<Height>, NoMemory>
     }
 }
 
+/// After an operation that takes two numbers.
+fn after_two(height: Height) -> Option<Height>
+    ensures { result ≡ spec.and_then (spec.one_less height) spec.one_less }
+{
+    match one_less(height) {
+        Some(less) => one_less(less),
+        None => None,
+    }
+}
+
 /// What is pending after an operation of a program without routines.
 fn height_after(op: Op, height: Height) -> Result<Option<Height>, NoMemory>
     ensures { IfOk result (λ after. after ≡ spec.height_after [] op height) }
@@ -92,13 +102,18 @@ fn height_after(op: Op, height: Height) -> Result<Option<Height>, NoMemory>
             Ok(Some(one_more(height)?))
         }
         Op::PushText(_) => Ok(Some(one_text_more(height)?)),
-        Op::Unary { .. } => after_unary(height),
+        Op::Unary { .. } | Op::GoIfOne(_) | Op::GosubIfOne { .. } | Op::RaiseIfOne { .. } => {
+            after_unary(height)
+        }
         Op::Binary { .. } => after_binary(height),
+        Op::OpenFor { .. } => Ok(after_two(height)),
         Op::StoreResident(_)
         | Op::StoreInteger(_)
         | Op::WriteNumber { .. }
         | Op::Write(_)
         | Op::GoIfZero(_)
+        | Op::Discard
+        | Op::Until { .. }
         | Op::LeaveNumber => Ok(one_less(height)),
         Op::WriteText | Op::LeaveText => Ok(one_text_less(height)),
         _ => Ok(Some(height)),

@@ -3,7 +3,9 @@
 #![tactic(auto)]
 
 mod copies;
+mod ends;
 mod expressions;
+mod flow;
 mod heights;
 mod laws;
 mod numbers;

@@ -33,3 +33,15 @@ pub fn after_else(items: &[Item], place: u32) -> Result<u32, NoMemory>
     }
     plus(place, items.len())
 }
+
+/// The place after the first ELSE among these items, which begin at a place, if there is one.
+pub fn found_else(items: &[Item], place: u32) -> Result<Option<u32>, NoMemory>
+    ensures { IfOk result (λ found. found ≡ spec.found_else items.now place) }
+{
+    for i in 0..items.len() {
+        if matches!(&items[i], Item::Else) {
+            return Ok(Some(plus(place, i + 1)?));
+        }
+    }
+    Ok(None)
+}

@@ -4,6 +4,7 @@ ghost use Rattle.std.specs.List.{AllByRecursion};
 ghost use Rattle.ir_build.specs.Code.{flat_code};
 
 use crate::copies::{copied_data_items, copied_names, strings};
+use crate::ends::Ends;
 use crate::numbers::plus;
 use crate::tables::{Tables, add_line};
 use bas_ast::Prog;
@@ -19,6 +20,7 @@ pub fn build(alloc: Global, prog: &Prog) -> Result<Ir, NoMemory>
     requires { AllByRecursion (λ text. length text ≤ LONGEST_STRING) prog.now.texts }
     ensures { IfOk result (λ ir. ir ≡ flat_code prog.now) }
 {
+    let ends = Ends::of_program(alloc, prog)?;
     let lines = prog.lines.as_slice();
     let mut tables = Tables::new(alloc);
     let mut line_starts = Items::new(alloc);
@@ -29,7 +31,7 @@ pub fn build(alloc: Global, prog: &Prog) -> Result<Ir, NoMemory>
             number: line.number,
             op: plus(0, tables.ops.len())?,
         })?;
-        add_line(alloc, prog, place, line, &mut tables)?;
+        add_line(alloc, prog, &ends, place, line, &mut tables)?;
         place = plus(place, line.items.len())?;
     }
     let Tables {

@@ -4,3 +4,5 @@
 
 #[cfg(test)]
 mod code;
+#[cfg(test)]
+mod loops;

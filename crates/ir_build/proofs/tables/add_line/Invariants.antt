@@ -1,7 +1,6 @@
 use Rattle.std.proofs.Common.{◌≡◌, ◌+◌, drop}
 use Rattle.ir_build.specs.Code.{codes_from}
-use Rattle.ir_build.specs.Tables.{with_codes, line_rows}
-use Rattle.ir_build.proofs.TableSteps.{rows_of}
+use Rattle.ir_build.specs.Tables.{with_codes, rows_of, line_rows}
 use Rattle.ir_build.proofs.tables.add_line.Given as goal
 
 abbrev pub invariant-loop-i : goal.invariant-loop-i
