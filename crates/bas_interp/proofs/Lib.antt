@@ -1,4 +1,6 @@
 pub mod Writing
 pub mod CallFree
+pub mod Counting
+pub mod Closing
 pub mod SoFar
 pub mod Ends

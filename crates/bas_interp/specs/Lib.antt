@@ -3,3 +3,4 @@ pub mod Machine
 pub mod Writes
 pub mod Runs
 pub mod Steps
+pub mod Loops

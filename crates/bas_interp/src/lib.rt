@@ -4,6 +4,7 @@
 mod act;
 mod columns;
 mod interp;
+mod loops;
 mod memory;
 mod operators;
 mod run;

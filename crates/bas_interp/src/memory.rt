@@ -4,14 +4,12 @@ ghost use Rattle.bas_interp.specs.Runs.{AtStart};
 
 use crate::stack::Stack;
 use bas_ir::Ir;
+use bas_store::{OpenEntries, RESIDENTS};
 use bas_value::Column;
 use bv_base::NoMemory;
 use std::alloc::Global;
 
-/// The number of resident integers: A% to Z%, and @%.
-const RESIDENTS: usize = 27;
-
-/// What the operations change, beside the output: the cells, the column, and what is pending.
+/// What the operations change, beside the output: the cells, the column, what is pending, and what is open.
 #[derive(Drop)]
 pub(crate) struct Memory {
     /// A% to Z%, and @%.
@@ -23,23 +21,31 @@ pub(crate) struct Memory {
     pub(crate) numbers: Stack<i32>,
     /// The pending strings, by their places in the table of texts.
     pub(crate) texts: Stack<u32>,
+    /// The open loops and GOSUBs.
+    pub(crate) opened: OpenEntries,
 }
 
 impl Memory {
-    /// The memory in which a run of a code begins, with the room that the run needs.
+    /// The memory in which a run of a code begins, with the room that the run needs. A code of 2^32 items, which no program in
+    /// memory has, is answered as want of memory.
     pub(crate) fn new(alloc: Global, code: &Ir) -> Result<Memory, NoMemory>
         ensures { IfOk result (λ memory. AtStart code.now memory) }
     {
+        if code.starts.len() > u32::MAX as usize {
+            return Err(NoMemory);
+        }
         let residents = vec![in alloc; 0; RESIDENTS]?;
         let integers = vec![in alloc; None; code.names.len()]?;
         let numbers = Stack::new(alloc, 0, code.ops.len())?;
         let texts = Stack::new(alloc, 0, code.ops.len())?;
+        let opened = OpenEntries::new(alloc)?;
         Ok(Memory {
             residents,
             integers,
             column: Column { at: 0 },
             numbers,
             texts,
+            opened,
         })
     }
 }
