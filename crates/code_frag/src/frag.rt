@@ -120,6 +120,13 @@ impl Frag {
         }
     }
 
+    /// The number of items.
+    pub fn item_count(&self) -> usize
+        ensures { result ≡ length self.now.items }
+    {
+        self.items.len()
+    }
+
     /// Adds an instruction. The only error is want of memory, and then the fragment is as it was.
     pub fn emit(&mut self, i: &Instr) -> Result<(), NoMemory>
         requires { IsValid i.now }

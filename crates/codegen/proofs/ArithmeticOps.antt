@@ -36,16 +36,17 @@ use Rattle.code_frag.proofs.Rules.{end_here, seq_then, skip_then, set_then, set_
 use Rattle.runtime_lib.specs.Entries.{Answers, Calculates}
 use Rattle.codegen.specs.Operations.{binary_code, condition_of, unary_code, raise_if_failed, raise_if_too_big, raise_label}
 use Rattle.codegen.specs.Outcomes.{Arrives}
-use Rattle.codegen.specs.StandsFor.{Holds, Numbers, Texts}
+use Rattle.codegen.specs.StandsFor.{Site, Holds, Numbers, Texts}
 use Rattle.codegen.proofs.Arriving.{CodeAsks, CodeDoes, Free, with_top, short_then, over_by, raise_over, raised, raise_by}
-use Rattle.codegen.proofs.NumberFacts.{in_range-word, in_range-no_word, sum-is, difference-is, bits-are, less-is, less_or_equal-is, equal-is, operation-errors, signed-fits, negated-is, complement-is, abs-negative, abs-positive, sign_by, sign-is, never-both, neither}
+use Rattle.runtime_lib.proofs.RangeLaws.{in_range-word, in_range-no_word}
+use Rattle.codegen.proofs.NumberFacts.{sum-is, difference-is, bits-are, less-is, less_or_equal-is, equal-is, operation-errors, signed-fits, negated-is, complement-is, abs-negative, abs-positive, sign_by, sign-is, never-both, neither}
 
 -- what an operator comes to
 abbrev pub computed : Result ℤ ℕ → ℕ → Pending → State → Course Effect
 computed result line p st = on_value (or_raise line result st) (λ value. falls (pushed value p))
 
 -- its result is in R0
-pub computed_end : {image : ℕ → ℕ} {p : Pending} {st : State} {s : Core} (result : Result ℤ ℕ) (line : ℕ) (value : ℤ) → result ≡ Ok value → Free image p st s → signed (s.regs 0) ≡ value
+pub computed_end : {image : Site} {p : Pending} {st : State} {s : Core} (result : Result ℤ ℕ) (line : ℕ) (value : ℤ) → result ≡ Ok value → Free image p st s → signed (s.regs 0) ≡ value
     → Arrives image (computed result line p st) demands.Falls s
 computed_end {image} {p} {st} {s} result line value is f top = subst (λ r. Arrives image (computed r line p st) demands.Falls s) (sym is) (record { by = (refl, with_top value f top) })
 
@@ -55,16 +56,16 @@ computed_over p st result error line unhandled is =
     ap (λ r. computed r line p st) is ∙ ap (λ c. on_value c (λ value. falls (pushed value p))) (raise_over {A = ℤ} error line st unhandled)
 
 -- where registers that hold nothing of the state, and flags, are changed
-pub free_same : {image : ℕ → ℕ} {p : Pending} {st : State} {s t : Core} → Free image p st s → ((k : ℕ) → 9 ≤ k → k ≤ 13 → t.regs k ≡ s.regs k) → t.mem ≡ s.mem → t.out ≡ s.out → Free image p st t
+pub free_same : {image : Site} {p : Pending} {st : State} {s t : Core} → Free image p st s → ((k : ℕ) → 9 ≤ k → k ≤ 13 → t.regs k ≡ s.regs k) → t.mem ≡ s.mem → t.out ≡ s.out → Free image p st t
 free_same {image} {p} {st} {s} {t} f kept mem out = record {
-  holds = transport (λ i. Holds st (sym (kept 11 (omega arith) (omega arith)) i) (sym (kept 13 (omega arith) (omega arith)) i) (sym mem i) (sym out i)) f.holds;
+  holds = transport (λ i. Holds image.branches st (sym (kept 11 (omega arith) (omega arith)) i) (sym (kept 13 (omega arith) (omega arith)) i) (sym mem i) (sym out i)) f.holds;
   numbers = transport (λ i. Numbers (sym mem i) (sym (kept 12 (omega arith) (omega arith)) i + 4) (word (sym mem i) (sym (kept 12 (omega arith) (omega arith)) i)) p.numbers) f.numbers;
-  texts = transport (λ i. Texts image (sym mem i) (sym (kept 9 (omega arith) (omega arith)) i) (sym (kept 10 (omega arith) (omega arith)) i) p.texts) f.texts;
+  texts = transport (λ i. Texts image.bytes (sym mem i) (sym (kept 9 (omega arith) (omega arith)) i) (sym (kept 10 (omega arith) (omega arith)) i) p.texts) f.texts;
 }
 
-module _ {image : ℕ → ℕ} {st : State} {s : Core} where
+module _ {image : Site} {st : State} {s : Core} where
   -- the error "number too big" where V is set
-  pub too_big_by : {Q : Post} (p : Pending) (z : ℤ) (result : Result ℤ ℕ) (line : ℕ) → result ≡ in_range z → line < 65536 → Holds st (s.regs 11) (s.regs 13) s.mem s.out → s.v ≡ not (is_signed_word z)
+  pub too_big_by : {Q : Post} (p : Pending) (z : ℤ) (result : Result ℤ ℕ) (line : ℕ) → result ≡ in_range z → line < 65536 → Holds image.branches st (s.regs 11) (s.regs 13) s.mem s.out → s.v ≡ not (is_signed_word z)
       → ((t : Core) → Arrives image (computed result line p st) (Leaves (ToLabel raise_label)) t → Q (Leaves (ToLabel raise_label)) t) → (is_signed_word z ≡ true → Q demands.Falls s)
       → Owes CodeAsks CodeDoes (raise_if_too_big line ⨾ Skip) Q s
   too_big_by p z result line is fits h flag over then_falls =
@@ -72,7 +73,7 @@ module _ {image : ℕ → ℕ} {st : State} {s : Core} where
       (λ e. raise_by (computed result line p st) too_big line (computed_over p st result too_big line h.unhandled (is ∙ in_range-no_word z (not-true (is_signed_word z) (sym flag ∙ e)))) (omega arith) fits h over)
       (λ e. skip_then (end_here (then_falls (not-false (is_signed_word z) (sym flag ∙ e))))))
 
-module _ {image : ℕ → ℕ} {p : Pending} {st : State} {s : Core} where
+module _ {image : Site} {p : Pending} {st : State} {s : Core} where
   -- and otherwise the result is in R0
   pub too_big_end : (z : ℤ) (result : Result ℤ ℕ) (line : ℕ) → result ≡ in_range z → line < 65536 → Free image p st s → s.v ≡ not (is_signed_word z) → (is_signed_word z ≡ true → signed (s.regs 0) ≡ z)
       → Owes CodeAsks CodeDoes (raise_if_too_big line ⨾ Skip) (Arrives image (computed result line p st)) s
@@ -107,7 +108,7 @@ module _ {image : ℕ → ℕ} {p : Pending} {st : State} {s : Core} where
 
 -- ---- the operators between R1 and R0
 
-module _ {image : ℕ → ℕ} {p : Pending} {st : State} {s : Core} (good : IsGood s) (f : Free image p st s) (line : ℕ) (fits : line < 65536) where
+module _ {image : Site} {p : Pending} {st : State} {s : Core} (good : IsGood s) (f : Free image p st s) (line : ℕ) (fits : line < 65536) where
   abbrev pub Owed : BinaryOp → Type 0
   Owed o = Owes CodeAsks CodeDoes (binary_code o line) (Arrives image (computed (of_two o (signed (s.regs 1)) (signed (s.regs 0))) line p st)) s
 
@@ -183,7 +184,7 @@ module _ {image : ℕ → ℕ} {p : Pending} {st : State} {s : Core} (good : IsG
 
 -- ---- a word or sign before R0
 
-module _ {image : ℕ → ℕ} {p : Pending} {st : State} {s : Core} (good : IsGood s) (f : Free image p st s) (line : ℕ) (fits : line < 65536) where
+module _ {image : Site} {p : Pending} {st : State} {s : Core} (good : IsGood s) (f : Free image p st s) (line : ℕ) (fits : line < 65536) where
   abbrev pub Asked : UnaryOp → Type 0
   Asked o = Owes CodeAsks CodeDoes (unary_code o line) (Arrives image (computed (of_one o (signed (s.regs 0))) line p st)) s
 

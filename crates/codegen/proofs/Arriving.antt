@@ -24,7 +24,7 @@ use Rattle.runtime_lib.specs.Library.{AsksAfter, DoesAfter}
 use Rattle.codegen.specs.Operations as code
 use Rattle.codegen.specs.Operations.{load, load_short, make_room, drop, raise_label}
 use Rattle.codegen.specs.Outcomes.{Arrives}
-use Rattle.codegen.specs.StandsFor.{Holds, Numbers, Texts, StandsFor}
+use Rattle.codegen.specs.StandsFor.{Site, Holds, Numbers, Texts, StandsFor}
 use Rattle.codegen.proofs.PendingLaws.{numbers_room, numbers_pushed, texts_kept, texts_room}
 use Rattle.codegen.proofs.StateLaws.{holds_stored}
 
@@ -39,21 +39,21 @@ CodeDoes = DoesAfter 1
 -- ---- where R0 is free
 
 -- The pending numbers are all in memory, and R0 may hold anything.
-pub record Free (image : ℕ → ℕ) (p : Pending) (st : State) (s : Core) : Type 0 where
-  pub holds : Holds st (s.regs 11) (s.regs 13) s.mem s.out
+pub record Free (image : Site) (p : Pending) (st : State) (s : Core) : Type 0 where
+  pub holds : Holds image.branches st (s.regs 11) (s.regs 13) s.mem s.out
   pub numbers : Numbers s.mem (s.regs 12 + 4) (word s.mem (s.regs 12)) p.numbers
-  pub texts : Texts image s.mem (s.regs 9) (s.regs 10) p.texts
+  pub texts : Texts image.bytes s.mem (s.regs 9) (s.regs 10) p.texts
 
 -- a number in R0 is pending, too
-pub with_top : {image : ℕ → ℕ} {p : Pending} {st : State} {s : Core} (value : ℤ) → Free image p st s → signed (s.regs 0) ≡ value → StandsFor image (pushed value p) st s
+pub with_top : {image : Site} {p : Pending} {st : State} {s : Core} (value : ℤ) → Free image p st s → signed (s.regs 0) ≡ value → StandsFor image (pushed value p) st s
 with_top value f is = record { holds = f.holds; numbers = (is, f.numbers); texts = f.texts }
 
 -- R0 holds a pending number that is not wanted any more
-pub without_top : {image : ℕ → ℕ} {p : Pending} {st : State} {s : Core} {value : ℤ} → StandsFor image (pushed value p) st s → Free image p st s
+pub without_top : {image : Site} {p : Pending} {st : State} {s : Core} {value : ℤ} → StandsFor image (pushed value p) st s → Free image p st s
 without_top f = record { holds = f.holds; numbers = f.numbers.1; texts = f.texts }
 
 -- where a stack is
-pub free_room : {image : ℕ → ℕ} {p : Pending} {st : State} {s : Core} → Free image p st s → s.regs 12 + 4 + 4 * length p.numbers ≡ numbers_end
+pub free_room : {image : Site} {p : Pending} {st : State} {s : Core} → Free image p st s → s.regs 12 + 4 + 4 * length p.numbers ≡ numbers_end
 free_room {image} {p} {st} {s} f = numbers_room s.mem (s.regs 12 + 4) (word s.mem (s.regs 12)) p.numbers f.numbers
 
 -- few values are pending
@@ -64,16 +64,16 @@ IsShort p = length p.numbers + length p.texts ≤ 256
 abbrev pub with_room : Core → Core
 with_room s = record s { regs = updated s.regs 12 (s.regs 12 - 4); mem = put_word s.mem (s.regs 12 - 4) (s.regs 0) }
 
-module _ {image : ℕ → ℕ} {p : Pending} {st : State} {s : Core} where
+module _ {image : Site} {p : Pending} {st : State} {s : Core} where
   pub free_with_room : StandsFor image p st s → IsGood s → IsShort p → Free image p st (with_room s)
   free_with_room f good few =
       let room = numbers_room s.mem (s.regs 12) (s.regs 0) p.numbers f.numbers in
-      let below = texts_room image s.mem (s.regs 9) (s.regs 10) p.texts f.texts in
+      let below = texts_room image.bytes s.mem (s.regs 9) (s.regs 10) p.texts f.texts in
       let next : s.regs 12 - 4 + 4 ≡ s.regs 12 = omega (arith, room, few) in
       record {
-        holds = holds_stored st (s.regs 11) (s.regs 13) s.mem s.out (s.regs 12 - 4) (s.regs 0) f.holds (omega (arith, room, few));
+        holds = holds_stored st (s.regs 11) (s.regs 13) s.mem s.out (s.regs 12 - 4) (s.regs 0) f.holds (omega (arith, room, few)) (omega (arith, room, few));
         numbers = numbers_pushed s.mem (s.regs 12 - 4) (s.regs 12) (s.regs 0) p.numbers f.numbers next (good.regs 0);
-        texts = texts_kept image s.mem (put_word s.mem (s.regs 12 - 4) (s.regs 0)) (s.regs 9) (s.regs 10) p.texts f.texts (λ a low high. byte-put_other s.mem (s.regs 12 - 4) (s.regs 0) a (inr (omega (arith, low, below, room, few))));
+        texts = texts_kept image.bytes s.mem (put_word s.mem (s.regs 12 - 4) (s.regs 0)) (s.regs 9) (s.regs 10) p.texts f.texts (λ a low high. byte-put_other s.mem (s.regs 12 - 4) (s.regs 0) a (inr (omega (arith, low, below, room, few))));
       }
 
 -- ---- numbers
@@ -102,7 +102,7 @@ module _ {rest : language.Piece} {Q : Post} {s : Core} where
 
 -- ---- the topmost number
 
-module _ {image : ℕ → ℕ} {p : Pending} {st : State} {s : Core} where
+module _ {image : Site} {p : Pending} {st : State} {s : Core} where
   -- room is made for a number
   pub room_then : {rest : language.Piece} {Q : Post} → StandsFor image p st s → IsShort p → Owes CodeAsks CodeDoes rest Q (with_room s) → Owes CodeAsks CodeDoes (make_room ⨾ rest) Q s
   room_then f few owes =
@@ -131,9 +131,9 @@ pub raise_over : {A : Type 0} (error line : ℕ) (st : State) → st.handler ≡
 raise_over {A} error line st unhandled =
     ap (λ h. raised_to {A = A} h (pos error) (error_text error) line st) (ap (taker (int_eq (pos error) (pos 0))) unhandled ∙ taker-none (int_eq (pos error) (pos 0)))
 
-module _ {image : ℕ → ℕ} {st : State} {s : Core} where
+module _ {image : Site} {st : State} {s : Core} where
   -- the error in R0 and the line in R1 are raised
-  pub raised : (c : Course Effect) (error line : ℕ) → c ≡ over_by error line st → error < 256 → line < 65536 → Holds st (s.regs 11) (s.regs 13) s.mem s.out → s.regs 0 ≡ error → s.regs 1 ≡ line
+  pub raised : (c : Course Effect) (error line : ℕ) → c ≡ over_by error line st → error < 256 → line < 65536 → Holds image.branches st (s.regs 11) (s.regs 13) s.mem s.out → s.regs 0 ≡ error → s.regs 1 ≡ line
       → Arrives image c (Leaves (ToLabel raise_label)) s
   raised c error line ends known fits h is_error is_line =
       subst (λ d. Arrives image d (Leaves (ToLabel raise_label)) s) (sym ends)
@@ -155,15 +155,15 @@ module _ {image : ℕ → ℕ} {st : State} {s : Core} where
         });
       })
 
-module _ {image : ℕ → ℕ} {st : State} {s : Core} where
+module _ {image : Site} {st : State} {s : Core} where
   -- an error's code
-  pub raise_by : {Q : Post} (c : Course Effect) (error line : ℕ) → c ≡ over_by error line st → error < 256 → line < 65536 → Holds st (s.regs 11) (s.regs 13) s.mem s.out
+  pub raise_by : {Q : Post} (c : Course Effect) (error line : ℕ) → c ≡ over_by error line st → error < 256 → line < 65536 → Holds image.branches st (s.regs 11) (s.regs 13) s.mem s.out
       → ((t : Core) → Arrives image c (Leaves (ToLabel raise_label)) t → Q (Leaves (ToLabel raise_label)) t) → Owes CodeAsks CodeDoes (code.raise error line) Q s
   raise_by c error line ends known fits h then_asked =
       set_then error refl (immediate_value-byte error known)
       (short_then line (omega (arith, fits)) (leave_then (then_asked _ (raised c error line ends known fits h refl refl))))
 
   -- wherever its piece leads if it comes to its end
-  pub raise_then : {falls : Core → Type 0} (c : Course Effect) (error line : ℕ) → c ≡ over_by error line st → error < 256 → line < 65536 → Holds st (s.regs 11) (s.regs 13) s.mem s.out
+  pub raise_then : {falls : Core → Type 0} (c : Course Effect) (error line : ℕ) → c ≡ over_by error line st → error < 256 → line < 65536 → Holds image.branches st (s.regs 11) (s.regs 13) s.mem s.out
       → Owes CodeAsks CodeDoes (code.raise error line) (on_falls falls (Arrives image c)) s
   raise_then c error line ends known fits h = raise_by c error line ends known fits h (λ t a. a)

@@ -26,9 +26,9 @@ use Rattle.code_frag.specs.Language.{Skip, When, ◌⨾◌}
 use Rattle.code_frag.specs.Regions.{residents_start, column_at}
 use Rattle.code_frag.proofs.Rules as rules
 use Rattle.code_frag.proofs.Rules.{end_here, set_then, test_then, when_then, store_then, push_then, pull_then}
-use Rattle.codegen.specs.Operations.{op_code, raise, number, number_by, find_cell, cell_offset, cell_place}
+use Rattle.codegen.specs.Operations.{Named, op_code, raise, number, number_by, find_cell, cell_offset, cell_place}
 use Rattle.codegen.specs.Outcomes.{Arrives}
-use Rattle.codegen.specs.StandsFor.{IsCell, cell_at, Holds, Numbers, IsText, StandsFor}
+use Rattle.codegen.specs.StandsFor.{Site, IsCell, cell_at, Holds, Numbers, IsText, StandsFor}
 use Rattle.codegen.proofs.Arriving.{CodeAsks, CodeDoes, Free, with_top, without_top, free_room, IsShort, with_room, free_with_room, load_then, room_then, drop_end, raise_over, raise_then}
 use Rattle.codegen.proofs.CellLaws.{holds_resident, holds_integer}
 use Rattle.codegen.proofs.PendingLaws.{numbers_room, numbers_kept, texts_room, texts_kept, texts_pushed}
@@ -36,7 +36,7 @@ use Rattle.codegen.proofs.StateLaws.{holds_stored}
 
 -- ---- numbers
 
-module _ {image : ℕ → ℕ} {p : Pending} {st : State} {s : Core} where
+module _ {image : Site} {p : Pending} {st : State} {s : Core} where
   number_end_by : (small large : Bool) (n : ℕ) (value : ℤ) → Free image p st s → n < 2 ^ 32 → signed n ≡ value → (small ≡ true → n < 2 ^ 8) → (large ≡ true → 2 ^ 32 - 2 ^ 8 ≤ n)
       → Owes CodeAsks CodeDoes (number_by small large n) (Arrives image (Value (Falls (pushed value p)) st)) s
   number_end_by true large n value f fits is low high =
@@ -69,7 +69,7 @@ abbrev fetch : ℕ → ℕ → language.Piece
 fetch name line = ldr 2 1 (cell_place name + 4) ⨾ cmp 2 (num 0) ⨾ When EQ (raise unknown_variable line) ⨾ ldr 0 1 (cell_place name) ⨾ Skip
 
 -- the mark and the number of a cell, where R0 is free
-module _ {image : ℕ → ℕ} {p : Pending} {st : State} (t : Core) (name line : ℕ) (few : name < 4096) (fits : line < 65536) (at : t.regs 1 ≡ cell_base name) (f : Free image p st t) where
+module _ {image : Site} {p : Pending} {st : State} (t : Core) (name line : ℕ) (few : name < 4096) (fits : line < 65536) (at : t.regs 1 ≡ cell_base name) (f : Free image p st t) where
   mark_then : {rest : language.Piece} {Q : Post} → (word t.mem (cell_at name + 4) < 2 ^ 32 → Owes CodeAsks CodeDoes rest Q (put 2 (word t.mem (cell_at name + 4)) t)) → Owes CodeAsks CodeDoes (ldr 2 1 (cell_place name + 4) ⨾ rest) Q t
   mark_then owes = rules.load_then (cell_at name + 4) (word t.mem (cell_at name + 4)) (omega (arith, at, few)) refl (omega arith) (omega (arith, few)) owes
 
@@ -79,7 +79,7 @@ module _ {image : ℕ → ℕ} {p : Pending} {st : State} (t : Core) (name line 
       mark_then (λ small.
       test_then (compared mark 0) refl refl
       (when_then (λ e. raise_then (fetched p st line None) unknown_variable line (ap (λ c. on_value c (λ value. falls (pushed value p))) (raise_over {A = ℤ} unknown_variable line st f.holds.unhandled)) (omega arith) fits f.holds)
-      (λ e. absurd (eqb-false mark 0 (sym (after-eq mark 0 (put 2 mark t) small (omega arith)) ∙ e) unmade))))
+      (λ e. absurd (eqb-false mark 0 (sym (after-eq mark 0 (put 2 mark t) small (omega arith)) ∙ e) unmade.0))))
   fetch_owes (Some value) is =
       let mark = word t.mem (cell_at name + 4) in
       mark_then (λ small.
@@ -88,7 +88,7 @@ module _ {image : ℕ → ℕ} {p : Pending} {st : State} (t : Core) (name line 
       (λ e. rules.load_then (cell_at name) (word t.mem (cell_at name)) (omega (arith, at, few)) refl (omega arith) (omega (arith, few))
       (λ low. end_here (record { by = (refl, with_top value (record { holds = f.holds; numbers = f.numbers; texts = f.texts }) is.1) })))))
 
-module _ {image : ℕ → ℕ} {p : Pending} {st : State} {s : Core} (texts : ℕ → ℕ) where
+module _ {image : Site} {p : Pending} {st : State} {s : Core} (texts : Named) where
   -- a number
   pub push_owes : (value : ℤ) → FitsSigned w32 value → StandsFor image p st s → IsGood s → IsShort p → Owes CodeAsks CodeDoes (op_code texts (o.Push value)) (Arrives image (Value (Falls (pushed value p)) st)) s
   push_owes value fits f good few =
@@ -124,13 +124,13 @@ module _ {image : ℕ → ℕ} {p : Pending} {st : State} {s : Core} (texts : �
       let room = free_room g in
       store_then a (s.regs 0) (omega (arith, b, inside)) refl (omega arith) (inr (omega arith, omega (arith, inside)))
       (drop_end (record {
-        holds = subst (λ v. Holds (record st { stored = with_number (Resident index) v st.stored }) (s.regs 11) (s.regs 13) (put_word s.mem a (s.regs 0)) s.out) f.numbers.0
+        holds = subst (λ v. Holds image.branches (record st { stored = with_number (Resident index) v st.stored }) (s.regs 11) (s.regs 13) (put_word s.mem a (s.regs 0)) s.out) f.numbers.0
             (holds_resident st (s.regs 11) (s.regs 13) s.mem s.out index (s.regs 0) f.holds inside (good.regs 0));
         numbers = subst (λ w. Numbers (put_word s.mem a (s.regs 0)) (s.regs 12 + 4) w p.numbers)
             (word-same s.mem (put_word s.mem a (s.regs 0)) (s.regs 12) (λ c low high. sym (byte-put_other s.mem a (s.regs 0) c (inr (omega (arith, low, inside, room, few))))))
             (numbers_kept s.mem (put_word s.mem a (s.regs 0)) (s.regs 12 + 4) (word s.mem (s.regs 12)) p.numbers g.numbers (λ c low high. byte-put_other s.mem a (s.regs 0) c (inr (omega (arith, low, inside, room, few)))));
-        texts = texts_kept image s.mem (put_word s.mem a (s.regs 0)) (s.regs 9) (s.regs 10) p.texts g.texts
-            (let below = texts_room image s.mem (s.regs 9) (s.regs 10) p.texts g.texts in λ c low high. byte-put_other s.mem a (s.regs 0) c (inr (omega (arith, low, inside, below, few))));
+        texts = texts_kept image.bytes s.mem (put_word s.mem a (s.regs 0)) (s.regs 9) (s.regs 10) p.texts g.texts
+            (let below = texts_room image.bytes s.mem (s.regs 9) (s.regs 10) p.texts g.texts in λ c low high. byte-put_other s.mem a (s.regs 0) c (inr (omega (arith, low, inside, below, few))));
       }))
 
   -- the integer of a name
@@ -156,40 +156,40 @@ module _ {image : ℕ → ℕ} {p : Pending} {st : State} {s : Core} (texts : �
       let b = f.holds.base_is in
       let g = without_top f in
       let room = free_room g in
-      let below = texts_room image s.mem (s.regs 9) (s.regs 10) p.texts g.texts in
+      let below = texts_room image.bytes s.mem (s.regs 9) (s.regs 10) p.texts g.texts in
       let elsewhere : (c : ℕ) → a + 8 ≤ c → after c ≡ s.mem c = λ c high. byte-put_other first (a + 4) 1 c (inr (omega (arith, high))) ∙ byte-put_other s.mem a (s.regs 0) c (inr (omega (arith, high))) in
       find_then name low b
       (store_then a (s.regs 0) (omega (arith, low)) refl (omega arith) (inr (omega arith, omega (arith, low)))
       (set_then 1 refl refl
       (store_then (a + 4) 1 (omega (arith, low)) refl (omega arith) (inr (omega arith, omega (arith, low)))
       (drop_end (record {
-        holds = subst (λ v. Holds (record st { stored = with_number (Integer name) v st.stored }) (s.regs 11) (s.regs 13) after s.out) f.numbers.0
+        holds = subst (λ v. Holds image.branches (record st { stored = with_number (Integer name) v st.stored }) (s.regs 11) (s.regs 13) after s.out) f.numbers.0
             (holds_integer st (s.regs 11) (s.regs 13) s.mem s.out name (s.regs 0) f.holds inside (good.regs 0));
         numbers = subst (λ w. Numbers after (s.regs 12 + 4) w p.numbers)
             (word-same s.mem after (s.regs 12) (λ c from to. sym (elsewhere c (omega (arith, from, low, room, short)))))
             (numbers_kept s.mem after (s.regs 12 + 4) (word s.mem (s.regs 12)) p.numbers g.numbers (λ c from to. elsewhere c (omega (arith, from, low, room, short))));
-        texts = texts_kept image s.mem after (s.regs 9) (s.regs 10) p.texts g.texts (λ c from to. elsewhere c (omega (arith, from, low, below, short)));
+        texts = texts_kept image.bytes s.mem after (s.regs 9) (s.regs 10) p.texts g.texts (λ c from to. elsewhere c (omega (arith, from, low, below, short)));
       })))))
 
   -- ---- texts
 
   -- a text of the image
-  pub push_text_owes : (number : ℕ) (text : List ℕ) → IsText image (texts number) text → StandsFor image p st s → IsGood s → IsShort p
+  pub push_text_owes : (number : ℕ) (text : List ℕ) → IsText image.bytes (texts.text number) text → StandsFor image p st s → IsGood s → IsShort p
       → Owes CodeAsks CodeDoes (op_code texts (o.PushText number)) (Arrives image (Value (Falls (text_pushed text p)) st)) s
   push_text_owes number text there f good short =
-      let room = texts_room image s.mem (s.regs 9) (s.regs 10) p.texts f.texts in
+      let room = texts_room image.bytes s.mem (s.regs 9) (s.regs 10) p.texts f.texts in
       let numbers_at = numbers_room s.mem (s.regs 12) (s.regs 0) p.numbers f.numbers in
       let q = s.regs 9 - 4 in
       let high = there.high in
       push_then q (s.regs 10) (omega (arith, room, short)) refl (omega (arith, room, short)) (inr (omega (arith, room, short), omega (arith, room, short)))
-      (load_then 10 (texts number) (omega (arith, high))
+      (load_then 10 (texts.text number) (omega (arith, high))
       (end_here (record {
         by = (
           refl,
           record {
-            holds = holds_stored st (s.regs 11) (s.regs 13) s.mem s.out q (s.regs 10) f.holds (omega (arith, room, short));
+            holds = holds_stored st (s.regs 11) (s.regs 13) s.mem s.out q (s.regs 10) f.holds (omega (arith, room, short)) (omega (arith, room, short));
             numbers = numbers_kept s.mem (put_word s.mem q (s.regs 10)) (s.regs 12) (s.regs 0) p.numbers f.numbers (λ c from to. byte-put_other s.mem q (s.regs 10) c (inl (omega (arith, to, room, short))));
-            texts = (there, texts_pushed image s.mem q (s.regs 9) (s.regs 10) p.texts f.texts (omega (arith, room, short)) (good.regs 10));
+            texts = (there, texts_pushed image.bytes s.mem q (s.regs 9) (s.regs 10) p.texts f.texts (omega (arith, room, short)) (good.regs 10));
           },
         );
       })))

@@ -9,11 +9,16 @@ use Rattle.bas_ir.specs.declared.op.Op.{Op}
 use Rattle.bas_ir.specs.declared.op.Op.TheVariants as o
 use Rattle.bas_ir.specs.declared.op.Piece.TheVariants as pieces
 use Rattle.bas_ir.specs.Places.{marks_in}
+use Rattle.arm_isa.specs.Numbers.{AL}
+use Rattle.code_frag.specs.declared.item.Item.{Item}
+use Rattle.code_frag.specs.declared.item.Item.TheVariants.{Jump}
+use Rattle.code_frag.specs.declared.item.Label.{Label}
+use Rattle.code_frag.specs.Language.{Piece, ◌⨾◌, items}
 use Rattle.code_frag.specs.Words.{FragState}
 use Rattle.codegen.specs.Operations.{item_label, op_code}
-use Rattle.codegen.specs.Program.{text_bytes, text_address}
+use Rattle.codegen.specs.Program.{branch_items, item_after, named, text_bytes, text_address}
 use Rattle.codegen.specs.Emission.{with_code}
-use Rattle.codegen.specs.Placing.{addresses_from, addresses, address_in, texts_start, text_of, with_labels, with_place_if, item_after, with_op, with_ops, AreOpen}
+use Rattle.codegen.specs.Placing.{addresses_from, addresses, address_in, texts_start, text_of, with_labels, with_place_if, with_op, with_ops, AreOpen}
 
 -- ---- addresses of texts
 
@@ -56,39 +61,57 @@ unfolding addresses
 address-is ir n = address_from texts_start ir.texts n
 
 -- an operation's code depends on the address of its own text alone
-pub op_code-text : (texts : ℕ → ℕ) (op : Op) → op_code (λ number. texts (text_of op)) op ≡ op_code texts op
-op_code-text texts (o.Push value) = refl
-op_code-text texts o.PushColumn = refl
-op_code-text texts (o.PushResident index) = refl
-op_code-text texts (o.PushInteger name line) = refl
-op_code-text texts (o.PushText text) = refl
-op_code-text texts (o.Unary op line) = refl
-op_code-text texts (o.Binary op line) = refl
-op_code-text texts (o.StoreResident index) = refl
-op_code-text texts (o.StoreInteger name) = refl
-op_code-text texts (o.WriteNumber padded format) = refl
-op_code-text texts o.WriteText = refl
-op_code-text texts (o.Write pieces.Spaces) = refl
-op_code-text texts (o.Write pieces.Tab) = refl
-op_code-text texts (o.Write pieces.Byte) = refl
-op_code-text texts (o.Write pieces.Word) = refl
-op_code-text texts (o.Write pieces.Mode) = refl
-op_code-text texts (o.Write pieces.Colour) = refl
-op_code-text texts (o.WriteMark marks.Field) = refl
-op_code-text texts (o.WriteMark marks.NewLine) = refl
-op_code-text texts (o.WriteMark marks.Clear) = refl
-op_code-text texts (o.Go item) = refl
-op_code-text texts (o.GoIfZero item) = refl
-op_code-text texts (o.Raise error line) = refl
-op_code-text texts o.End = refl
-op_code-text texts (o.Enter kind routine line) = refl
-op_code-text texts (o.LeaveProcedure line) = refl
-op_code-text texts (o.NeedFunction line) = refl
-op_code-text texts o.LeaveNumber = refl
-op_code-text texts o.LeaveText = refl
-op_code-text texts (o.HandleAll item) = refl
-op_code-text texts (o.HandleHere item) = refl
-op_code-text texts o.HandleNone = refl
+pub op_code-text : (texts : ℕ → ℕ) (branches next : ℕ) (op : Op) → op_code (named (λ number. texts (text_of op)) branches next) op ≡ op_code (named texts branches next) op
+op_code-text texts branches next (o.Push value) = refl
+op_code-text texts branches next o.PushColumn = refl
+op_code-text texts branches next (o.PushResident index) = refl
+op_code-text texts branches next (o.PushInteger name line) = refl
+op_code-text texts branches next (o.PushText number) = refl
+op_code-text texts branches next (o.Unary x line) = refl
+op_code-text texts branches next (o.Binary x line) = refl
+op_code-text texts branches next (o.StoreResident index) = refl
+op_code-text texts branches next (o.StoreInteger name) = refl
+op_code-text texts branches next (o.WriteNumber padded format) = refl
+op_code-text texts branches next o.WriteText = refl
+op_code-text texts branches next (o.Write pieces.Spaces) = refl
+op_code-text texts branches next (o.Write pieces.Tab) = refl
+op_code-text texts branches next (o.Write pieces.Byte) = refl
+op_code-text texts branches next (o.Write pieces.Word) = refl
+op_code-text texts branches next (o.Write pieces.Mode) = refl
+op_code-text texts branches next (o.Write pieces.Colour) = refl
+op_code-text texts branches next (o.WriteMark marks.Field) = refl
+op_code-text texts branches next (o.WriteMark marks.NewLine) = refl
+op_code-text texts branches next (o.WriteMark marks.Clear) = refl
+op_code-text texts branches next (o.Go item) = refl
+op_code-text texts branches next (o.GoIfZero item) = refl
+op_code-text texts branches next o.Discard = refl
+op_code-text texts branches next (o.GoIfOne item) = refl
+op_code-text texts branches next (o.GosubIfOne item line) = refl
+op_code-text texts branches next (o.RaiseIfOne error line) = refl
+op_code-text texts branches next (o.OpenFor counter line) = refl
+op_code-text texts branches next (o.OpenRepeat line) = refl
+op_code-text texts branches next (o.OpenWhile line) = refl
+op_code-text texts branches next (o.Gosub item line) = refl
+op_code-text texts branches next (o.Next counter line) = refl
+op_code-text texts branches next (o.NextAny line) = refl
+op_code-text texts branches next (o.Until line) = refl
+op_code-text texts branches next (o.EndWhile line) = refl
+op_code-text texts branches next (o.Return line) = refl
+op_code-text texts branches next (o.Raise error line) = refl
+op_code-text texts branches next o.End = refl
+op_code-text texts branches next (o.Enter kind routine line) = refl
+op_code-text texts branches next (o.LeaveProcedure line) = refl
+op_code-text texts branches next (o.NeedFunction line) = refl
+op_code-text texts branches next o.LeaveNumber = refl
+op_code-text texts branches next o.LeaveText = refl
+op_code-text texts branches next (o.HandleAll item) = refl
+op_code-text texts branches next (o.HandleHere item) = refl
+op_code-text texts branches next o.HandleNone = refl
+
+-- ---- pieces one after another
+
+pub two_pieces : (a b : Piece) (f g : FragState) → g ≡ with_code a f → with_code b g ≡ with_code (a ⨾ b) f
+two_pieces a b f g first = ap (with_code b) first ∙ (λ i. record { items = append_assoc f.items (items a) (items b) i; places = f.places })
 
 -- ---- labels
 
@@ -107,13 +130,29 @@ labels_step xs i f g h within added so_far =
     let count : 1 + marks_in (take i xs) + item_after (get_or xs i false) 0 ≡ 1 + marks_in (take (i + 1) xs) = omega (arith, ap marks_in (take_more xs i false within), marks_in-more (take i xs) (get_or xs i false)) in
     added ∙ ap (with_labels (item_after (get_or xs i false) 0)) so_far ∙ with_labels-more (1 + marks_in (take i xs)) (item_after (get_or xs i false) 0) f ∙ ap (λ n. with_labels n f) count
 
+-- ---- branches to items
+
+-- one branch more
+branches-more : (n item : ℕ) → branch_items (suc n) item ≡ branch_items n item ++ branch_items 1 (item + n)
+branches-more zero item = ap (λ k. branch_items 1 k) (let e : item ≡ item + 0 = omega arith in e)
+branches-more (suc n) item =
+    let next = Jump AL false (record { number = item_label item }) in
+    ap (λ rest. next ∷ rest) (branches-more n (item + 1) ∙ ap (λ k. branch_items n (item + 1) ++ branch_items 1 k) (let e : item + 1 + n ≡ item + suc n = omega arith in e))
+
+pub branches_step : (item : ℕ) (to : Label) (first : List Item) (f g : FragState) → to.number ≡ item_label item → g ≡ record { items = f.items ++ Jump AL false to ∷ []; places = f.places } → f.items ≡ first ++ branch_items item 0
+    → g.items ≡ first ++ branch_items (item + 1) 0
+branches_step item to first f g number made so_far =
+    ap (λ (s : FragState). s.items) made ∙ (λ i. so_far i ++ Jump AL false (record { number = number i }) ∷ []) ∙ append_assoc first (branch_items item 0) (branch_items 1 item)
+    ∙ ap (λ k. first ++ (branch_items item 0 ++ branch_items 1 k)) (let e : item ≡ 0 + item = omega arith in e) ∙ ap (λ rest. first ++ rest) (sym (branches-more item 0))
+    ∙ ap (λ n. first ++ branch_items n 0) (let e : suc item ≡ item + 1 = omega arith in e)
+
 -- ---- operations
 
-pub ops_step : (texts : ℕ → ℕ) (ops : List Op) (xs : List Bool) (pc item : ℕ) (op : Op) (f g all : FragState) → pc < length ops → pc < length xs → op ≡ get_or ops pc op → g ≡ with_op texts op (get_or xs pc false) item f
-    → with_ops texts (drop pc ops) (drop pc xs) item f ≡ all → with_ops texts (drop (pc + 1) ops) (drop (pc + 1) xs) (item_after (get_or xs pc false) item) g ≡ all
-ops_step texts ops xs pc item op f g all within also is made so_far =
+pub ops_step : (texts : ℕ → ℕ) (branches : ℕ) (ops : List Op) (xs : List Bool) (pc item : ℕ) (op : Op) (f g all : FragState) → pc < length ops → pc < length xs → op ≡ get_or ops pc op → g ≡ with_op texts branches op (get_or xs pc false) item f
+    → with_ops texts branches (drop pc ops) (drop pc xs) item f ≡ all → with_ops texts branches (drop (pc + 1) ops) (drop (pc + 1) xs) (item_after (get_or xs pc false) item) g ≡ all
+ops_step texts branches ops xs pc item op f g all within also is made so_far =
     let first : drop pc ops ≡ op ∷ drop (pc + 1) ops = drop_more ops pc op within ∙ ap (λ x. x ∷ drop (pc + 1) ops) (sym is) in
-    ap (with_ops texts (drop (pc + 1) ops) (drop (pc + 1) xs) (item_after (get_or xs pc false) item)) made ∙ sym (λ j. with_ops texts (first j) (drop_more xs pc false also j) item f) ∙ so_far
+    ap (with_ops texts branches (drop (pc + 1) ops) (drop (pc + 1) xs) (item_after (get_or xs pc false) item)) made ∙ sym (λ j. with_ops texts branches (first j) (drop_more xs pc false also j) item f) ∙ so_far
 
 marks_in-first : (mark : Bool) (xs : List Bool) (item : ℕ) → item_after mark item + marks_in xs ≡ item + marks_in (mark ∷ xs)
 marks_in-first true xs item = omega arith
@@ -141,10 +180,10 @@ open_after true item f free k from within =
     ∙ free k (omega (arith, from)) (let e = length_set f.places (item_label item) (Some (length f.items)) in omega (arith, e, within))
 open_after false item f free k from within = free k from within
 
-pub open_step : (texts : ℕ → ℕ) (op : Op) (mark : Bool) (item : ℕ) (f g : FragState) → g ≡ with_op texts op mark item f → AreOpen item f → AreOpen (item_after mark item) g
-open_step texts op mark item f g made free = subst (AreOpen (item_after mark item)) (sym made) (open_after mark item f free)
+pub open_step : (texts : ℕ → ℕ) (branches : ℕ) (op : Op) (mark : Bool) (item : ℕ) (f g : FragState) → g ≡ with_op texts branches op mark item f → AreOpen item f → AreOpen (item_after mark item) g
+open_step texts branches op mark item f g made free = subst (AreOpen (item_after mark item)) (sym made) (open_after mark item f free)
 
-pub labels_few : (mark : Bool) (i : ℕ) (g h : FragState) → h ≡ with_labels (item_after mark 0) g → length g.places ≤ 15 + i → length h.places ≤ 15 + (i + 1)
+pub labels_few : (mark : Bool) (i : ℕ) (g h : FragState) → h ≡ with_labels (item_after mark 0) g → length g.places ≤ item_label i → length h.places ≤ item_label (i + 1)
 labels_few true i g h added few = omega (arith, ap (λ (f : FragState). length f.places) added, length-append g.places (None ∷ []), few)
 labels_few false i g h added few = omega (arith, ap (λ (f : FragState). length f.places) added, length-append g.places [], few)
 
@@ -158,8 +197,8 @@ same_read (x ∷ xs) (suc i) d e within = same_read xs i d e (omega (arith, with
 pub op_at : (ops ys : List Op) (pc : ℕ) (d : Op) → ys ≡ ops → pc < length ys → slice_get ops pc ≡ Some (get_or ys pc d)
 op_at ops ys pc d same within = sym (ap (λ xs. slice_get xs pc) same) ∙ slice_get-get_or ys pc d within
 
-module _ (ir : Ir) (ys : List Op) (ms : List Bool) (pc item next address : ℕ) (d : Op) (f g : FragState) (same_ops : ys ≡ ir.ops) (same_marks : ms ≡ ir.marks) (within : pc < length ys) (laid_out : length ir.marks ≡ length ir.ops)
-    (made : g ≡ with_op (λ number. address) (get_or ys pc d) (get_or ms pc false) item f) (moved : next ≡ item_after (get_or ms pc false) item) where
+module _ (ir : Ir) (ys : List Op) (ms : List Bool) (pc item next address branches : ℕ) (d : Op) (f g : FragState) (same_ops : ys ≡ ir.ops) (same_marks : ms ≡ ir.marks) (within : pc < length ys) (laid_out : length ir.marks ≡ length ir.ops)
+    (made : g ≡ with_op (λ number. address) branches (get_or ys pc d) (get_or ms pc false) item f) (moved : next ≡ item_after (get_or ms pc false) item) where
   in_ops : pc < length ir.ops
   in_ops = let e = ap length same_ops in omega (arith, e, within)
 
@@ -169,21 +208,22 @@ module _ (ir : Ir) (ys : List Op) (ms : List Bool) (pc item next address : ℕ) 
   mark_is : get_or ms pc false ≡ get_or ir.marks pc false
   mark_is = ap (λ xs. get_or xs pc false) same_marks
 
-  pub code_more : (table : List ℕ) (all : FragState) → table ≡ addresses ir → address ≡ address_in table (text_of (get_or ys pc d)) → with_ops (text_address ir) (drop pc ir.ops) (drop pc ir.marks) item f ≡ all
-      → with_ops (text_address ir) (drop (pc + 1) ir.ops) (drop (pc + 1) ir.marks) next g ≡ all
+  pub code_more : (table : List ℕ) (all : FragState) → table ≡ addresses ir → address ≡ address_in table (text_of (get_or ys pc d)) → with_ops (text_address ir) branches (drop pc ir.ops) (drop pc ir.marks) item f ≡ all
+      → with_ops (text_address ir) branches (drop (pc + 1) ir.ops) (drop (pc + 1) ir.marks) next g ≡ all
   code_more table all table_is address_is_ so_far =
       let op = get_or ys pc d in
       let there : address ≡ text_address ir (text_of op) = address_is_ ∙ ap (λ t. address_in t (text_of op)) table_is ∙ address-is ir (text_of op) in
-      let code : op_code (λ number. address) op ≡ op_code (text_address ir) op = ap (λ a. op_code (λ number. a) op) there ∙ op_code-text (text_address ir) op in
-      let made_there : g ≡ with_op (text_address ir) op (get_or ir.marks pc false) item f = made ∙ (λ i. with_code (code i) (with_place_if (mark_is i) item f)) in
-      ap (λ n. with_ops (text_address ir) (drop (pc + 1) ir.ops) (drop (pc + 1) ir.marks) n g) (moved ∙ ap (λ m. item_after m item) mark_is)
-      ∙ ops_step (text_address ir) ir.ops ir.marks pc item op f g all in_ops in_marks (op_is) made_there so_far
+      let after = item_after (get_or ms pc false) item in
+      let code : op_code (named (λ number. address) branches after) op ≡ op_code (named (text_address ir) branches after) op = ap (λ a. op_code (named (λ number. a) branches after) op) there ∙ op_code-text (text_address ir) branches after op in
+      let made_there : g ≡ with_op (text_address ir) branches op (get_or ir.marks pc false) item f = made ∙ ap (λ c. with_code c (with_place_if (get_or ms pc false) item f)) code ∙ ap (λ m. with_op (text_address ir) branches op m item f) mark_is in
+      ap (λ n. with_ops (text_address ir) branches (drop (pc + 1) ir.ops) (drop (pc + 1) ir.marks) n g) (moved ∙ ap (λ m. item_after m item) mark_is)
+      ∙ ops_step (text_address ir) branches ir.ops ir.marks pc item op f g all in_ops in_marks (op_is) made_there so_far
     where
       op_is : get_or ys pc d ≡ get_or ir.ops pc (get_or ys pc d)
       op_is = same_read ys pc d (get_or ys pc d) within ∙ ap (λ xs. get_or xs pc (get_or ys pc d)) same_ops
 
   pub unplaced_more : AreOpen item f → AreOpen next g
-  unplaced_more free = subst (λ n. AreOpen n g) (sym moved) (open_step (λ number. address) (get_or ys pc d) (get_or ms pc false) item f g made free)
+  unplaced_more free = subst (λ n. AreOpen n g) (sym moved) (open_step (λ number. address) branches (get_or ys pc d) (get_or ms pc false) item f g made free)
 
   pub items_more : (all : ℕ) → item + marks_in (drop pc ir.marks) ≡ all → next + marks_in (drop (pc + 1) ir.marks) ≡ all
   items_more all so_far = ap (λ n. n + marks_in (drop (pc + 1) ir.marks)) (moved ∙ ap (λ m. item_after m item) mark_is) ∙ items_step ir.marks pc item all in_marks so_far

@@ -20,9 +20,9 @@ use Rattle.arm_core.proofs.Comparisons.{after-eq}
 use Rattle.code_frag.specs.Demands as demands
 use Rattle.code_frag.specs.Demands.{Leaves, ToLabel, ToEnd, Owes}
 use Rattle.code_frag.proofs.Rules.{end_here, set_then, test_then, pull_then, leave_then, leave_if_then, halt_then}
-use Rattle.codegen.specs.Operations.{op_code, item_label}
+use Rattle.codegen.specs.Operations.{Named, op_code, item_label}
 use Rattle.codegen.specs.Outcomes.{Arrives}
-use Rattle.codegen.specs.StandsFor.{StandsFor}
+use Rattle.codegen.specs.StandsFor.{Site, StandsFor}
 use Rattle.codegen.proofs.Arriving.{CodeAsks, CodeDoes, without_top, free_room, raise_over, raise_by}
 
 -- a number is 0 where its register is
@@ -41,10 +41,10 @@ zero-is r value small is = by (int_eq value (pos 0)) (r == 0) (Decides-int_eq va
     by true false d e = sym (e.1 (forth (d.0 refl)))
     by false true d e = d.1 (back (e.0 refl))
 
-module _ {image : ℕ → ℕ} {st : State} {s : Core} (texts : ℕ → ℕ) where
+module _ {image : Site} {st : State} {s : Core} (texts : Named) where
   -- to an item, with nothing pending
   pub go_owes : (item : ℕ) → StandsFor image nothing st s → Owes CodeAsks CodeDoes (op_code texts (o.Go item)) (Arrives image (Value (Goes (GoOn item)) st)) s
-  go_owes item f = leave_then (record { by = (refl, f) })
+  go_owes item f = leave_then (record { by = (inl refl, f) })
 
   -- and where a number is 0
   pub go_if_zero_owes : (item : ℕ) (value : ℤ) → StandsFor image (pushed value nothing) st s → IsGood s
@@ -66,7 +66,7 @@ module _ {image : ℕ → ℕ} {st : State} {s : Core} (texts : ℕ → ℕ) whe
       there = let g = without_top f in record { holds = g.holds; numbers = g.numbers; texts = g.texts }
 
       arrives : int_eq value (pos 0) ≡ true → Arrives image (Value (go_if (int_eq value (pos 0)) item nothing) st) (Leaves (ToLabel (item_label item))) last
-      arrives e = subst (λ b. Arrives image (Value (go_if b item nothing) st) (Leaves (ToLabel (item_label item))) last) (sym e) (record { by = (refl, there) })
+      arrives e = subst (λ b. Arrives image (Value (go_if b item nothing) st) (Leaves (ToLabel (item_label item))) last) (sym e) (record { by = (inl refl, there) })
 
       falls : int_eq value (pos 0) ≡ false → Arrives image (Value (go_if (int_eq value (pos 0)) item nothing) st) demands.Falls last
       falls e = subst (λ b. Arrives image (Value (go_if b item nothing) st) demands.Falls last) (sym e) (record { by = (refl, there) })

@@ -2,10 +2,14 @@
 mod PendingLaws
 mod StateLaws
 mod CellLaws
+mod EntryLaws
 mod Arriving
 mod CellOps
 mod OutputOps
 mod LeavingOps
+mod OpenOps
+mod LoopOps
+mod TurnOps
 mod NumberFacts
 mod ArithmeticOps
 mod ShiftOps

@@ -1,6 +1,6 @@
 -- What the processor's results are as numbers of the language.
 use Rattle.std.proofs.Common.{◌≡◌, ℕ, zero, suc, ◌+◌, ◌-◌, ◌%◌, ◌^◌, ◌<◌, ◌≤◌, ◌==◌, ◌&&◌, ◌⊎◌, inl, inr, nat_lt, Bool, true, false, if◌then◌else◌, ℤ, pos, negsuc, neg_ℤ, ◌+ℤ◌, ◌-ℤ◌, unsigned_abs, Ok, Err, FitsSigned, refl, sym, ap, ◌∙◌, arith, lt-ltb, ltb-true, ltb-false}
-use Rattle.std.proofs.lemmas.Bool.{lt-leb, cases_lt}
+use Rattle.std.proofs.lemmas.Bool.{cases_lt}
 use Rattle.std.proofs.lemmas.Bool.Decides.{Decides-int_eq, Decides-eqb}
 use Rattle.std.proofs.lemmas.Int.{ints, of_z-to_z, wrapping_add-bits, wrapping_sub-bits, int_wrap_fits}
 use Rattle.std.specs.Int.{w32}
@@ -13,19 +13,9 @@ use Rattle.bv_num.specs.Operation.{Operation, too_big, division_by_zero, in_rang
 use Rattle.bv_num.proofs.OperationLaws.{in_range-fits}
 use Rattle.arm2_alu.specs.Operations.{is_signed_word}
 use Rattle.arm2_alu.proofs.ValueLaws.{minus, signed-low, signed-high}
+use Rattle.runtime_lib.proofs.RangeLaws.{fits-word}
 
 -- ---- range
-
-pub fits-word : (z : ℤ) → is_signed_word z ≡ true → FitsSigned w32 z
-fits-word (pos n) e = record { sfits = ltb-true n (2 ^ 31) e }
-fits-word (negsuc n) e = record { sfits = ltb-true n (2 ^ 31) e }
-
-pub in_range-word : (z : ℤ) → is_signed_word z ≡ true → in_range z ≡ Ok z
-in_range-word z e = in_range-fits z (fits-word z e)
-
-pub in_range-no_word : (z : ℤ) → is_signed_word z ≡ false → in_range z ≡ Err too_big
-in_range-no_word (pos n) e = ap (λ t. if t then Ok (pos n) else Err too_big) e
-in_range-no_word (negsuc n) e = ap (λ t. if t && true then Ok (negsuc n) else Err too_big) (lt-leb n 2147483647 (let low = ltb-false n (2 ^ 31) e in omega (arith, low)))
 
 pub signed-fits : (n : ℕ) → n < 2 ^ 32 → FitsSigned w32 (signed n)
 signed-fits n small = omega (arith, ints, small)

@@ -1,5 +1,5 @@
 -- The pieces of operations: they are well formed, call routines of the library alone, have a word, and no more than an operation may
--- have.
+-- have, whatever they name.
 use Rattle.std.proofs.Common.{◌≡◌, ℕ, ◌+◌, ◌-◌, ◌*◌, ◌^◌, ◌<◌, ◌≤◌, Bool, true, false, nat_lt, nat_le, List, refl, arith}
 use Rattle.bas_ast.specs.declared.expressions.BinaryOp.{BinaryOp}
 use Rattle.bas_ast.specs.declared.expressions.BinaryOp.TheVariants as op
@@ -14,7 +14,9 @@ use Rattle.bas_ir.specs.WellFormed.{most_code}
 use Rattle.bv_num.specs.Bits.{pattern}
 use Rattle.code_frag.specs.Language.{is_well_formed, calls, size}
 use Rattle.code_frag.specs.Runs.{Meets, MeetEach}
-use Rattle.codegen.specs.Operations.{op_code, number_by, binary_code, unary_code}
+use Rattle.runtime_lib.specs.Routines.{routines_count}
+use Rattle.codegen.specs.Operations.{Named, op_code, number_by, binary_code, unary_code}
+use Rattle.codegen.specs.Program.{op_size}
 use Rattle.codegen.proofs.Arriving.{CodeAsks, CodeDoes}
 
 -- ---- well formed
@@ -46,43 +48,56 @@ unary-formed unary.Abs line = refl
 unary-formed unary.Sgn line = refl
 unary-formed unary.Int line = refl
 
-pub op-formed : (texts : ℕ → ℕ) (x : Op) → is_well_formed (op_code texts x) ≡ true
-op-formed texts (o.Push value) = number-formed (nat_lt (pattern value) (2 ^ 8)) (nat_le (2 ^ 32 - 2 ^ 8) (pattern value)) (pattern value)
-op-formed texts o.PushColumn = refl
-op-formed texts (o.PushResident index) = refl
-op-formed texts (o.PushInteger name line) = refl
-op-formed texts (o.PushText number) = refl
-op-formed texts (o.Unary x line) = unary-formed x line
-op-formed texts (o.Binary x line) = binary-formed x line
-op-formed texts (o.StoreResident index) = refl
-op-formed texts (o.StoreInteger name) = refl
-op-formed texts (o.WriteNumber padded format) = refl
-op-formed texts o.WriteText = refl
-op-formed texts (o.Write pieces.Spaces) = refl
-op-formed texts (o.Write pieces.Tab) = refl
-op-formed texts (o.Write pieces.Byte) = refl
-op-formed texts (o.Write pieces.Word) = refl
-op-formed texts (o.Write pieces.Mode) = refl
-op-formed texts (o.Write pieces.Colour) = refl
-op-formed texts (o.WriteMark marks.Field) = refl
-op-formed texts (o.WriteMark marks.NewLine) = refl
-op-formed texts (o.WriteMark marks.Clear) = refl
-op-formed texts (o.Go item) = refl
-op-formed texts (o.GoIfZero item) = refl
-op-formed texts (o.Raise error line) = refl
-op-formed texts o.End = refl
-op-formed texts (o.Enter kind routine line) = refl
-op-formed texts (o.LeaveProcedure line) = refl
-op-formed texts (o.NeedFunction line) = refl
-op-formed texts o.LeaveNumber = refl
-op-formed texts o.LeaveText = refl
-op-formed texts (o.HandleAll item) = refl
-op-formed texts (o.HandleHere item) = refl
-op-formed texts o.HandleNone = refl
+pub op-formed : (n : Named) (x : Op) → is_well_formed (op_code n x) ≡ true
+op-formed n (o.Push value) = number-formed (nat_lt (pattern value) (2 ^ 8)) (nat_le (2 ^ 32 - 2 ^ 8) (pattern value)) (pattern value)
+op-formed n o.PushColumn = refl
+op-formed n (o.PushResident index) = refl
+op-formed n (o.PushInteger name line) = refl
+op-formed n (o.PushText number) = refl
+op-formed n (o.Unary x line) = unary-formed x line
+op-formed n (o.Binary x line) = binary-formed x line
+op-formed n (o.StoreResident index) = refl
+op-formed n (o.StoreInteger name) = refl
+op-formed n (o.WriteNumber padded format) = refl
+op-formed n o.WriteText = refl
+op-formed n (o.Write pieces.Spaces) = refl
+op-formed n (o.Write pieces.Tab) = refl
+op-formed n (o.Write pieces.Byte) = refl
+op-formed n (o.Write pieces.Word) = refl
+op-formed n (o.Write pieces.Mode) = refl
+op-formed n (o.Write pieces.Colour) = refl
+op-formed n (o.WriteMark marks.Field) = refl
+op-formed n (o.WriteMark marks.NewLine) = refl
+op-formed n (o.WriteMark marks.Clear) = refl
+op-formed n (o.Go item) = refl
+op-formed n (o.GoIfZero item) = refl
+op-formed n o.Discard = refl
+op-formed n (o.GoIfOne item) = refl
+op-formed n (o.GosubIfOne item line) = refl
+op-formed n (o.RaiseIfOne error line) = refl
+op-formed n (o.OpenFor counter line) = refl
+op-formed n (o.OpenRepeat line) = refl
+op-formed n (o.OpenWhile line) = refl
+op-formed n (o.Gosub item line) = refl
+op-formed n (o.Next counter line) = refl
+op-formed n (o.NextAny line) = refl
+op-formed n (o.Until line) = refl
+op-formed n (o.EndWhile line) = refl
+op-formed n (o.Return line) = refl
+op-formed n (o.Raise error line) = refl
+op-formed n o.End = refl
+op-formed n (o.Enter kind routine line) = refl
+op-formed n (o.LeaveProcedure line) = refl
+op-formed n (o.NeedFunction line) = refl
+op-formed n o.LeaveNumber = refl
+op-formed n o.LeaveText = refl
+op-formed n (o.HandleAll item) = refl
+op-formed n (o.HandleHere item) = refl
+op-formed n o.HandleNone = refl
 
 -- ---- what they call
 
-module _ (code entry : ℕ → ℕ) (meets : (label : ℕ) → label < 13 → Meets code entry CodeAsks CodeDoes (label + 1)) where
+module _ (code entry : ℕ → ℕ) (meets : (label : ℕ) → label < routines_count → Meets code entry CodeAsks CodeDoes (label + 1)) where
   abbrev Met : List ℕ → Type 0
   Met labels = MeetEach code entry CodeAsks CodeDoes labels
 
@@ -113,40 +128,53 @@ module _ (code entry : ℕ → ℕ) (meets : (label : ℕ) → label < 13 → Me
   unary-calls unary.Sgn line = tt
   unary-calls unary.Int line = tt
 
-  pub op-calls : (texts : ℕ → ℕ) (x : Op) → Met (calls (op_code texts x))
-  op-calls texts (o.Push value) = number-calls (nat_lt (pattern value) (2 ^ 8)) (nat_le (2 ^ 32 - 2 ^ 8) (pattern value)) (pattern value)
-  op-calls texts o.PushColumn = tt
-  op-calls texts (o.PushResident index) = tt
-  op-calls texts (o.PushInteger name line) = tt
-  op-calls texts (o.PushText number) = tt
-  op-calls texts (o.Unary x line) = unary-calls x line
-  op-calls texts (o.Binary x line) = binary-calls x line
-  op-calls texts (o.StoreResident index) = tt
-  op-calls texts (o.StoreInteger name) = tt
-  op-calls texts (o.WriteNumber padded formats.Decimal) = (meets 3 (omega arith), tt)
-  op-calls texts (o.WriteNumber padded formats.Hexadecimal) = (meets 4 (omega arith), tt)
-  op-calls texts o.WriteText = (meets 7 (omega arith), tt)
-  op-calls texts (o.Write pieces.Spaces) = (meets 5 (omega arith), tt)
-  op-calls texts (o.Write pieces.Tab) = (meets 10 (omega arith), tt)
-  op-calls texts (o.Write pieces.Byte) = tt
-  op-calls texts (o.Write pieces.Word) = tt
-  op-calls texts (o.Write pieces.Mode) = tt
-  op-calls texts (o.Write pieces.Colour) = tt
-  op-calls texts (o.WriteMark marks.Field) = (meets 9 (omega arith), tt)
-  op-calls texts (o.WriteMark marks.NewLine) = tt
-  op-calls texts (o.WriteMark marks.Clear) = tt
-  op-calls texts (o.Go item) = tt
-  op-calls texts (o.GoIfZero item) = tt
-  op-calls texts (o.Raise error line) = tt
-  op-calls texts o.End = tt
-  op-calls texts (o.Enter kind routine line) = tt
-  op-calls texts (o.LeaveProcedure line) = tt
-  op-calls texts (o.NeedFunction line) = tt
-  op-calls texts o.LeaveNumber = tt
-  op-calls texts o.LeaveText = tt
-  op-calls texts (o.HandleAll item) = tt
-  op-calls texts (o.HandleHere item) = tt
-  op-calls texts o.HandleNone = tt
+  pub op-calls : (n : Named) (x : Op) → Met (calls (op_code n x))
+  op-calls n (o.Push value) = number-calls (nat_lt (pattern value) (2 ^ 8)) (nat_le (2 ^ 32 - 2 ^ 8) (pattern value)) (pattern value)
+  op-calls n o.PushColumn = tt
+  op-calls n (o.PushResident index) = tt
+  op-calls n (o.PushInteger name line) = tt
+  op-calls n (o.PushText number) = tt
+  op-calls n (o.Unary x line) = unary-calls x line
+  op-calls n (o.Binary x line) = binary-calls x line
+  op-calls n (o.StoreResident index) = tt
+  op-calls n (o.StoreInteger name) = tt
+  op-calls n (o.WriteNumber padded formats.Decimal) = (meets 3 (omega arith), tt)
+  op-calls n (o.WriteNumber padded formats.Hexadecimal) = (meets 4 (omega arith), tt)
+  op-calls n o.WriteText = (meets 7 (omega arith), tt)
+  op-calls n (o.Write pieces.Spaces) = (meets 5 (omega arith), tt)
+  op-calls n (o.Write pieces.Tab) = (meets 10 (omega arith), tt)
+  op-calls n (o.Write pieces.Byte) = tt
+  op-calls n (o.Write pieces.Word) = tt
+  op-calls n (o.Write pieces.Mode) = tt
+  op-calls n (o.Write pieces.Colour) = tt
+  op-calls n (o.WriteMark marks.Field) = (meets 9 (omega arith), tt)
+  op-calls n (o.WriteMark marks.NewLine) = tt
+  op-calls n (o.WriteMark marks.Clear) = tt
+  op-calls n (o.Go item) = tt
+  op-calls n (o.GoIfZero item) = tt
+  op-calls n o.Discard = tt
+  op-calls n (o.GoIfOne item) = tt
+  op-calls n (o.GosubIfOne item line) = (meets 13 (omega arith), tt)
+  op-calls n (o.RaiseIfOne error line) = tt
+  op-calls n (o.OpenFor counter line) = (meets 13 (omega arith), tt)
+  op-calls n (o.OpenRepeat line) = (meets 13 (omega arith), tt)
+  op-calls n (o.OpenWhile line) = (meets 13 (omega arith), tt)
+  op-calls n (o.Gosub item line) = (meets 13 (omega arith), tt)
+  op-calls n (o.Next counter line) = (meets 15 (omega arith), tt)
+  op-calls n (o.NextAny line) = (meets 15 (omega arith), tt)
+  op-calls n (o.Until line) = (meets 14 (omega arith), tt)
+  op-calls n (o.EndWhile line) = (meets 14 (omega arith), tt)
+  op-calls n (o.Return line) = (meets 14 (omega arith), tt)
+  op-calls n (o.Raise error line) = tt
+  op-calls n o.End = tt
+  op-calls n (o.Enter kind routine line) = tt
+  op-calls n (o.LeaveProcedure line) = tt
+  op-calls n (o.NeedFunction line) = tt
+  op-calls n o.LeaveNumber = tt
+  op-calls n o.LeaveText = tt
+  op-calls n (o.HandleAll item) = tt
+  op-calls n (o.HandleHere item) = tt
+  op-calls n o.HandleNone = tt
 
 -- ---- how many words they have
 
@@ -181,36 +209,97 @@ unary-size unary.Abs line = (omega arith, omega arith)
 unary-size unary.Sgn line = (omega arith, omega arith)
 unary-size unary.Int line = (omega arith, omega arith)
 
-pub op-size : (texts : ℕ → ℕ) (x : Op) → HasBytes (size (op_code texts x)) (most_code x)
-op-size texts (o.Push value) = number-size (nat_lt (pattern value) (2 ^ 8)) (nat_le (2 ^ 32 - 2 ^ 8) (pattern value)) (pattern value)
-op-size texts o.PushColumn = (omega arith, omega arith)
-op-size texts (o.PushResident index) = (omega arith, omega arith)
-op-size texts (o.PushInteger name line) = (omega arith, omega arith)
-op-size texts (o.PushText number) = (omega arith, omega arith)
-op-size texts (o.Unary x line) = unary-size x line
-op-size texts (o.Binary x line) = binary-size x line
-op-size texts (o.StoreResident index) = (omega arith, omega arith)
-op-size texts (o.StoreInteger name) = (omega arith, omega arith)
-op-size texts (o.WriteNumber padded format) = (omega arith, omega arith)
-op-size texts o.WriteText = (omega arith, omega arith)
-op-size texts (o.Write pieces.Spaces) = (omega arith, omega arith)
-op-size texts (o.Write pieces.Tab) = (omega arith, omega arith)
-op-size texts (o.Write pieces.Byte) = (omega arith, omega arith)
-op-size texts (o.Write pieces.Word) = (omega arith, omega arith)
-op-size texts (o.Write pieces.Mode) = (omega arith, omega arith)
-op-size texts (o.Write pieces.Colour) = (omega arith, omega arith)
-op-size texts (o.WriteMark marks.Field) = (omega arith, omega arith)
-op-size texts (o.WriteMark marks.NewLine) = (omega arith, omega arith)
-op-size texts (o.WriteMark marks.Clear) = (omega arith, omega arith)
-op-size texts (o.Go item) = (omega arith, omega arith)
-op-size texts (o.GoIfZero item) = (omega arith, omega arith)
-op-size texts (o.Raise error line) = (omega arith, omega arith)
-op-size texts o.End = (omega arith, omega arith)
-op-size texts (o.Enter kind routine line) = (omega arith, omega arith)
-op-size texts (o.LeaveProcedure line) = (omega arith, omega arith)
-op-size texts (o.NeedFunction line) = (omega arith, omega arith)
-op-size texts o.LeaveNumber = (omega arith, omega arith)
-op-size texts o.LeaveText = (omega arith, omega arith)
-op-size texts (o.HandleAll item) = (omega arith, omega arith)
-op-size texts (o.HandleHere item) = (omega arith, omega arith)
-op-size texts o.HandleNone = (omega arith, omega arith)
+pub op-size : (x : Op) → HasBytes (op_size x) (most_code x)
+op-size (o.Push value) = number-size (nat_lt (pattern value) (2 ^ 8)) (nat_le (2 ^ 32 - 2 ^ 8) (pattern value)) (pattern value)
+op-size o.PushColumn = (omega arith, omega arith)
+op-size (o.PushResident index) = (omega arith, omega arith)
+op-size (o.PushInteger name line) = (omega arith, omega arith)
+op-size (o.PushText number) = (omega arith, omega arith)
+op-size (o.Unary x line) = unary-size x line
+op-size (o.Binary x line) = binary-size x line
+op-size (o.StoreResident index) = (omega arith, omega arith)
+op-size (o.StoreInteger name) = (omega arith, omega arith)
+op-size (o.WriteNumber padded format) = (omega arith, omega arith)
+op-size o.WriteText = (omega arith, omega arith)
+op-size (o.Write pieces.Spaces) = (omega arith, omega arith)
+op-size (o.Write pieces.Tab) = (omega arith, omega arith)
+op-size (o.Write pieces.Byte) = (omega arith, omega arith)
+op-size (o.Write pieces.Word) = (omega arith, omega arith)
+op-size (o.Write pieces.Mode) = (omega arith, omega arith)
+op-size (o.Write pieces.Colour) = (omega arith, omega arith)
+op-size (o.WriteMark marks.Field) = (omega arith, omega arith)
+op-size (o.WriteMark marks.NewLine) = (omega arith, omega arith)
+op-size (o.WriteMark marks.Clear) = (omega arith, omega arith)
+op-size (o.Go item) = (omega arith, omega arith)
+op-size (o.GoIfZero item) = (omega arith, omega arith)
+op-size o.Discard = (omega arith, omega arith)
+op-size (o.GoIfOne item) = (omega arith, omega arith)
+op-size (o.GosubIfOne item line) = (omega arith, omega arith)
+op-size (o.RaiseIfOne error line) = (omega arith, omega arith)
+op-size (o.OpenFor counter line) = (omega arith, omega arith)
+op-size (o.OpenRepeat line) = (omega arith, omega arith)
+op-size (o.OpenWhile line) = (omega arith, omega arith)
+op-size (o.Gosub item line) = (omega arith, omega arith)
+op-size (o.Next counter line) = (omega arith, omega arith)
+op-size (o.NextAny line) = (omega arith, omega arith)
+op-size (o.Until line) = (omega arith, omega arith)
+op-size (o.EndWhile line) = (omega arith, omega arith)
+op-size (o.Return line) = (omega arith, omega arith)
+op-size (o.Raise error line) = (omega arith, omega arith)
+op-size o.End = (omega arith, omega arith)
+op-size (o.Enter kind routine line) = (omega arith, omega arith)
+op-size (o.LeaveProcedure line) = (omega arith, omega arith)
+op-size (o.NeedFunction line) = (omega arith, omega arith)
+op-size o.LeaveNumber = (omega arith, omega arith)
+op-size o.LeaveText = (omega arith, omega arith)
+op-size (o.HandleAll item) = (omega arith, omega arith)
+op-size (o.HandleHere item) = (omega arith, omega arith)
+op-size o.HandleNone = (omega arith, omega arith)
+
+-- they are as many whatever they name
+pub size-named : (n : Named) (x : Op) → size (op_code n x) ≡ op_size x
+size-named n (o.Push value) = refl
+size-named n o.PushColumn = refl
+size-named n (o.PushResident index) = refl
+size-named n (o.PushInteger name line) = refl
+size-named n (o.PushText number) = refl
+size-named n (o.Unary x line) = refl
+size-named n (o.Binary x line) = refl
+size-named n (o.StoreResident index) = refl
+size-named n (o.StoreInteger name) = refl
+size-named n (o.WriteNumber padded format) = refl
+size-named n o.WriteText = refl
+size-named n (o.Write pieces.Spaces) = refl
+size-named n (o.Write pieces.Tab) = refl
+size-named n (o.Write pieces.Byte) = refl
+size-named n (o.Write pieces.Word) = refl
+size-named n (o.Write pieces.Mode) = refl
+size-named n (o.Write pieces.Colour) = refl
+size-named n (o.WriteMark marks.Field) = refl
+size-named n (o.WriteMark marks.NewLine) = refl
+size-named n (o.WriteMark marks.Clear) = refl
+size-named n (o.Go item) = refl
+size-named n (o.GoIfZero item) = refl
+size-named n o.Discard = refl
+size-named n (o.GoIfOne item) = refl
+size-named n (o.GosubIfOne item line) = refl
+size-named n (o.RaiseIfOne error line) = refl
+size-named n (o.OpenFor counter line) = refl
+size-named n (o.OpenRepeat line) = refl
+size-named n (o.OpenWhile line) = refl
+size-named n (o.Gosub item line) = refl
+size-named n (o.Next counter line) = refl
+size-named n (o.NextAny line) = refl
+size-named n (o.Until line) = refl
+size-named n (o.EndWhile line) = refl
+size-named n (o.Return line) = refl
+size-named n (o.Raise error line) = refl
+size-named n o.End = refl
+size-named n (o.Enter kind routine line) = refl
+size-named n (o.LeaveProcedure line) = refl
+size-named n (o.NeedFunction line) = refl
+size-named n o.LeaveNumber = refl
+size-named n o.LeaveText = refl
+size-named n (o.HandleAll item) = refl
+size-named n (o.HandleHere item) = refl
+size-named n o.HandleNone = refl

@@ -1,5 +1,5 @@
 -- The code of each operation owes what the operation does.
-use Rattle.std.proofs.Common.{◌≡◌, ℕ, suc, ◌+◌, ◌^◌, ◌<◌, ◌≤◌, ℤ, List, [], ◌∷◌, Some, length, slice_index_or, refl, sym, subst, arith}
+use Rattle.std.proofs.Common.{◌≡◌, ℕ, suc, ◌+◌, ◌*◌, ◌^◌, ◌<◌, ◌≤◌, ℤ, pos, List, [], ◌∷◌, Some, length, slice_index_or, refl, sym, subst, arith}
 use Rattle.std.proofs.Math.Path.{transport}
 use Rattle.bas_ast.specs.declared.expressions.BinaryOp.{BinaryOp}
 use Rattle.bas_ast.specs.declared.expressions.BinaryOp.TheVariants as op
@@ -10,13 +10,18 @@ use Rattle.bas_ir.specs.declared.ir.Ir.{Ir}
 use Rattle.bas_ir.specs.declared.op.Op.{Op}
 use Rattle.bas_ir.specs.declared.op.Op.TheVariants as o
 use Rattle.bas_ir.specs.Coded.{HasCode, HasWidths}
-use Rattle.bas_ir.specs.Effects.{effect}
+use Rattle.bas_ir.specs.declared.op.Counter.{Counter}
+use Rattle.bas_ir.specs.declared.op.Counter.TheVariants as counters
+use Rattle.bas_ir.specs.Effects.{go_if_one, gosub_if_one, cell_of, effect}
 use Rattle.bas_ir.specs.Heights.{height_after}
-use Rattle.bas_ir.specs.Places.{Pending}
-use Rattle.bas_ir.specs.WellFormed.{IsThere}
-use Rattle.bas_sem.specs.Calls.{Level}
+use Rattle.bas_ir.specs.Places.{Pending, nothing, pushed}
+use Rattle.bas_ir.specs.WellFormed.{IsThere, IsCounter}
+use Rattle.bas_sem.specs.Calls.{outermost}
+use Rattle.bas_sem.specs.Course.{Value}
 use Rattle.bas_sem.specs.Operators.{of_one, of_two}
 use Rattle.bas_sem.specs.State.{State}
+use Rattle.bas_store.specs.Opened.{NextOf}
+use Rattle.std.specs.Ordering.{int_eq}
 use Rattle.bv_num.specs.Bits.{signed}
 use Rattle.arm2_alu.proofs.RegisterLaws.{updated}
 use Rattle.arm_core.specs.Core.{Core, IsGood, put, word}
@@ -24,13 +29,16 @@ use Rattle.arm_core.proofs.States.{updated-lt}
 use Rattle.code_frag.specs.Demands.{Owes}
 use Rattle.code_frag.specs.Runs.{SameCode}
 use Rattle.code_frag.proofs.Rules.{pull_then}
-use Rattle.codegen.specs.Operations.{op_code, binary_code, unary_code}
+use Rattle.codegen.specs.Operations.{Named, op_code, binary_code, unary_code}
 use Rattle.codegen.specs.Outcomes.{Arrives}
-use Rattle.codegen.specs.StandsFor.{IsText, StandsFor}
+use Rattle.codegen.specs.StandsFor.{Site, IsSite, IsText, AreEntries, StandsFor}
 use Rattle.codegen.proofs.Arriving.{CodeAsks, CodeDoes, Free, without_top, free_room}
 use Rattle.codegen.proofs.ArithmeticOps.{computed, or_owes, eor_owes, and_owes, add_owes, subtract_owes, compare_owes, product_owes, quotient_owes, remainder_owes, kept_owes, minus_owes, not_owes, abs_owes, sign_owes}
 use Rattle.codegen.proofs.CellOps.{push_owes, push_column_owes, push_resident_owes, store_resident_owes, push_integer_owes, store_integer_owes, push_text_owes}
 use Rattle.codegen.proofs.LeavingOps.{go_owes, go_if_zero_owes, raise_owes, end_owes}
+use Rattle.codegen.proofs.EntryLaws.{IsCloser}
+use Rattle.codegen.proofs.LoopOps.{discard_owes, go_if_one_owes, gosub_if_one_owes, raise_if_one_owes, open_for_owes, open_repeat_owes, open_while_owes, gosub_owes, until_owes, endwhile_owes, return_owes}
+use Rattle.codegen.proofs.TurnOps.{next_owes, next_any_owes}
 use Rattle.codegen.proofs.OutputOps.{write_number_owes, write_owes, write_mark_owes, write_text_owes}
 use Rattle.codegen.proofs.ShiftOps.{shift_left_owes, shift_right_signed_owes, shift_right_owes}
 
@@ -38,7 +46,19 @@ use Rattle.codegen.proofs.ShiftOps.{shift_left_owes, shift_right_signed_owes, sh
 abbrev pub JumpsEmpty : Op → List ℤ → List (List ℕ) → Type 0
 JumpsEmpty (o.Go item) numbers texts = (numbers ≡ []) × (texts ≡ [])
 JumpsEmpty (o.GoIfZero item) (value ∷ numbers) texts = (numbers ≡ []) × (texts ≡ [])
+JumpsEmpty (o.GoIfOne item) (value ∷ numbers) texts = (numbers ≡ []) × (texts ≡ [])
+JumpsEmpty (o.GosubIfOne item line) (value ∷ numbers) texts = (numbers ≡ []) × (texts ≡ [])
+JumpsEmpty (o.Gosub item line) numbers texts = (numbers ≡ []) × (texts ≡ [])
+JumpsEmpty (o.Next counter line) numbers texts = (numbers ≡ []) × (texts ≡ [])
+JumpsEmpty (o.NextAny line) numbers texts = (numbers ≡ []) × (texts ≡ [])
+JumpsEmpty (o.Until line) (value ∷ numbers) texts = (numbers ≡ []) × (texts ≡ [])
+JumpsEmpty (o.EndWhile line) numbers texts = (numbers ≡ []) × (texts ≡ [])
+JumpsEmpty (o.Return line) numbers texts = (numbers ≡ []) × (texts ≡ [])
 JumpsEmpty _ numbers texts = Unit {0}
+
+-- where nothing is pending
+none_is : {numbers : List ℤ} {texts : List (List ℕ)} → (numbers ≡ []) × (texts ≡ []) → nothing ≡ record { numbers = numbers; texts = texts }
+none_is none = λ i. record { numbers = sym none.0 i; texts = sym none.1 i }
 
 -- an operation has what it takes
 pub record Fits (ir : Ir) (op : Op) (numbers : List ℤ) (texts : List (List ℕ)) (st : State) : Type 0 where
@@ -49,9 +69,11 @@ pub record Fits (ir : Ir) (op : Op) (numbers : List ℤ) (texts : List (List ℕ
   pub finds : height_after ir.routines op (record { numbers = length numbers; texts = length texts }) ≡ Some after
   pub short : length numbers + length texts ≤ 256
   pub names : length st.stored.integers ≡ length ir.names
+  pub entries : AreEntries (length st.stored.integers) (length ir.starts) st.stored.opened
   pub jumps : JumpsEmpty op numbers texts
 
-module _ (image : ℕ → ℕ) (address : ℕ → ℕ) (ir : Ir) (level : Level) (literals : (number : ℕ) → number < length ir.texts → IsText image (address number) (slice_index_or ir.texts number [])) where
+module _ (image : Site) (address : Named) (ir : Ir) (site : IsSite image) (items_are : image.items ≡ length ir.starts) (back : address.back ≡ image.branches + 4 * image.next)
+    (literals : (number : ℕ) → number < length ir.texts → IsText image.bytes (address.text number) (slice_index_or ir.texts number [])) where
   -- a word or sign
   unary_owes : (x : UnaryOp) (line : ℕ) (q : Pending) (st : State) (s : Core) → line < 65536 → IsGood s → Free image q st s → Owes CodeAsks CodeDoes (unary_code x line) (Arrives image (computed (of_one x (signed (s.regs 0))) line q st)) s
   unary_owes unary.Plus line q st s fits good f = kept_owes good f line fits unary.Plus refl
@@ -78,7 +100,7 @@ module _ (image : ℕ → ℕ) (address : ℕ → ℕ) (ir : Ir) (level : Level)
   binary_owes op.Remainder line q st s fits good f = remainder_owes good f line fits
 
   binary_from : (x : BinaryOp) (line : ℕ) (y z : ℤ) (numbers : List ℤ) (texts : List (List ℕ)) (st : State) (s : Core) → line < 65536 → suc (suc (length numbers)) + length texts ≤ 256 → StandsFor image (record { numbers = y ∷ z ∷ numbers; texts = texts }) st s → IsGood s
-      → Owes CodeAsks CodeDoes (op_code address (o.Binary x line)) (Arrives image (effect ir level (o.Binary x line) (record { numbers = y ∷ z ∷ numbers; texts = texts }) st)) s
+      → Owes CodeAsks CodeDoes (op_code address (o.Binary x line)) (Arrives image (effect ir outermost (o.Binary x line) (record { numbers = y ∷ z ∷ numbers; texts = texts }) st)) s
   binary_from x line y z numbers texts st s fits short f good =
       let q : Pending = record { numbers = numbers; texts = texts } in
       let room = free_room (without_top f) in
@@ -97,18 +119,30 @@ module _ (image : ℕ → ℕ) (address : ℕ → ℕ) (ir : Ir) (level : Level)
 
   -- jumps, where nothing is pending after them
   go_from : (item : ℕ) (numbers : List ℤ) (texts : List (List ℕ)) (st : State) (s : Core) → (numbers ≡ []) × (texts ≡ []) → StandsFor image (record { numbers = numbers; texts = texts }) st s
-      → Owes CodeAsks CodeDoes (op_code address (o.Go item)) (Arrives image (effect ir level (o.Go item) (record { numbers = numbers; texts = texts }) st)) s
+      → Owes CodeAsks CodeDoes (op_code address (o.Go item)) (Arrives image (effect ir outermost (o.Go item) (record { numbers = numbers; texts = texts }) st)) s
   go_from item numbers texts st s none f = go_owes address item (transport (λ i. StandsFor image (record { numbers = none.0 i; texts = none.1 i }) st s) f)
 
   go_if_zero_from : (item : ℕ) (value : ℤ) (numbers : List ℤ) (texts : List (List ℕ)) (st : State) (s : Core) → (numbers ≡ []) × (texts ≡ []) → StandsFor image (record { numbers = value ∷ numbers; texts = texts }) st s → IsGood s
-      → Owes CodeAsks CodeDoes (op_code address (o.GoIfZero item)) (Arrives image (effect ir level (o.GoIfZero item) (record { numbers = value ∷ numbers; texts = texts }) st)) s
+      → Owes CodeAsks CodeDoes (op_code address (o.GoIfZero item)) (Arrives image (effect ir outermost (o.GoIfZero item) (record { numbers = value ∷ numbers; texts = texts }) st)) s
   go_if_zero_from item value numbers texts st s none f good =
-      transport (λ i. Owes CodeAsks CodeDoes (op_code address (o.GoIfZero item)) (Arrives image (effect ir level (o.GoIfZero item) (record { numbers = value ∷ sym none.0 i; texts = sym none.1 i }) st)) s)
+      transport (λ i. Owes CodeAsks CodeDoes (op_code address (o.GoIfZero item)) (Arrives image (effect ir outermost (o.GoIfZero item) (record { numbers = value ∷ sym none.0 i; texts = sym none.1 i }) st)) s)
       (go_if_zero_owes address item value (transport (λ i. StandsFor image (record { numbers = value ∷ none.0 i; texts = none.1 i }) st s) f) good)
 
+  -- the variable of a FOR
+  counter_there : (counter : Counter) (st : State) → length st.stored.integers ≡ length ir.names → IsCounter ir counter → IsCloser (length st.stored.integers) (NextOf (cell_of counter))
+  counter_there (counters.Resident index) st names there = there
+  counter_there (counters.Integer name) st names there = omega (arith, names, there)
+
+  -- the open entries name what they may
+  abbrev Are : State → Type 0
+  Are st = AreEntries (length st.stored.integers) image.items st.stored.opened
+
+  are_from : (st : State) → AreEntries (length st.stored.integers) (length ir.starts) st.stored.opened → Are st
+  are_from st are = subst (λ n. AreEntries (length st.stored.integers) n st.stored.opened) (sym items_are) are
+
   -- every operation
-  pub op_owes : (x : Op) (numbers : List ℤ) (texts : List (List ℕ)) (st : State) (s : Core) → Fits ir x numbers texts st → StandsFor image (record { numbers = numbers; texts = texts }) st s → IsGood s → SameCode image s.mem
-      → Owes CodeAsks CodeDoes (op_code address x) (Arrives image (effect ir level x (record { numbers = numbers; texts = texts }) st)) s
+  pub op_owes : (x : Op) (numbers : List ℤ) (texts : List (List ℕ)) (st : State) (s : Core) → Fits ir x numbers texts st → StandsFor image (record { numbers = numbers; texts = texts }) st s → IsGood s → SameCode image.bytes s.mem
+      → Owes CodeAsks CodeDoes (op_code address x) (Arrives image (effect ir outermost x (record { numbers = numbers; texts = texts }) st)) s
   op_owes (o.Push value) numbers texts st s c f good same = push_owes address value c.widths f good c.short
   op_owes o.PushColumn numbers texts st s c f good same = push_column_owes address f good c.short
   op_owes (o.PushResident index) numbers texts st s c f good same = push_resident_owes address index c.coded f good c.short
@@ -135,6 +169,44 @@ module _ (image : ℕ → ℕ) (address : ℕ → ℕ) (ir : Ir) (level : Level)
   op_owes (o.Go item) numbers texts st s c f good same = go_from item numbers texts st s c.jumps f
   op_owes (o.GoIfZero item) [] texts st s c f good same = absurd (let e = c.finds in cc e)
   op_owes (o.GoIfZero item) (value ∷ numbers) texts st s c f good same = go_if_zero_from item value numbers texts st s c.jumps f good
+  op_owes o.Discard [] texts st s c f good same = absurd (let e = c.finds in cc e)
+  op_owes o.Discard (value ∷ numbers) texts st s c f good same = discard_owes site address back (record { numbers = numbers; texts = texts }) value f
+  op_owes (o.GoIfOne item) [] texts st s c f good same = absurd (let e = c.finds in cc e)
+  op_owes (o.GoIfOne item) (value ∷ numbers) texts st s c f good same =
+      subst (λ q. StandsFor image (pushed value q) st s → Owes CodeAsks CodeDoes (op_code address (o.GoIfOne item)) (Arrives image (Value (go_if_one (int_eq value (pos 1)) item value q) st)) s) (none_is c.jumps)
+      (λ g. go_if_one_owes site address back item value g good) f
+  op_owes (o.GosubIfOne item line) [] texts st s c f good same = absurd (let e = c.finds in cc e)
+  op_owes (o.GosubIfOne item line) (value ∷ numbers) texts st s c f good same =
+      subst (λ q. StandsFor image (pushed value q) st s → Owes CodeAsks CodeDoes (op_code address (o.GosubIfOne item line)) (Arrives image (Value (gosub_if_one (int_eq value (pos 1)) item line value q) st)) s) (none_is c.jumps)
+      (λ g. gosub_if_one_owes site address back item line value c.widths.1 g good) f
+  op_owes (o.RaiseIfOne error line) [] texts st s c f good same = absurd (let e = c.finds in cc e)
+  op_owes (o.RaiseIfOne error line) (value ∷ numbers) texts st s c f good same =
+      raise_if_one_owes site address back (record { numbers = numbers; texts = texts }) error line value c.coded c.widths.1 f good
+  op_owes (o.OpenFor counter line) [] texts st s c f good same = absurd (let e = c.finds in cc e)
+  op_owes (o.OpenFor counter line) (step ∷ []) texts st s c f good same = absurd (let e = c.finds in cc e)
+  op_owes (o.OpenFor counter line) (step ∷ limit ∷ numbers) texts st s c f good same =
+      open_for_owes site address back (record { numbers = numbers; texts = texts }) counter line limit step c.widths.1 c.widths.0 (let h = c.short in omega (arith, h)) f
+  op_owes (o.OpenRepeat line) numbers texts st s c f good same = open_repeat_owes site address back (record { numbers = numbers; texts = texts }) line c.widths c.short f
+  op_owes (o.OpenWhile line) numbers texts st s c f good same = open_while_owes site address back (record { numbers = numbers; texts = texts }) line c.widths c.short f
+  op_owes (o.Gosub item line) numbers texts st s c f good same =
+      subst (λ q. StandsFor image q st s → Owes CodeAsks CodeDoes (op_code address (o.Gosub item line)) (Arrives image (effect ir outermost (o.Gosub item line) q st)) s) (none_is c.jumps)
+      (λ g. gosub_owes site address back item line c.widths.1 g) f
+  op_owes (o.Next counter line) numbers texts st s c f good same =
+      subst (λ q. StandsFor image q st s → Owes CodeAsks CodeDoes (op_code address (o.Next counter line)) (Arrives image (effect ir outermost (o.Next counter line) q st)) s) (none_is c.jumps)
+      (λ g. next_owes site address (are_from st c.entries) line c.widths.1 g counter c.widths.0 (counter_there counter st c.names c.there)) f
+  op_owes (o.NextAny line) numbers texts st s c f good same =
+      subst (λ q. StandsFor image q st s → Owes CodeAsks CodeDoes (op_code address (o.NextAny line)) (Arrives image (effect ir outermost (o.NextAny line) q st)) s) (none_is c.jumps)
+      (λ g. next_any_owes site address (are_from st c.entries) line c.widths g) f
+  op_owes (o.Until line) [] texts st s c f good same = absurd (let e = c.finds in cc e)
+  op_owes (o.Until line) (value ∷ numbers) texts st s c f good same =
+      subst (λ q. StandsFor image (pushed value q) st s → Owes CodeAsks CodeDoes (op_code address (o.Until line)) (Arrives image (effect ir outermost (o.Until line) (pushed value q) st)) s) (none_is c.jumps)
+      (λ g. until_owes site address back (are_from st c.entries) line c.widths value g) f
+  op_owes (o.EndWhile line) numbers texts st s c f good same =
+      subst (λ q. StandsFor image q st s → Owes CodeAsks CodeDoes (op_code address (o.EndWhile line)) (Arrives image (effect ir outermost (o.EndWhile line) q st)) s) (none_is c.jumps)
+      (λ g. endwhile_owes site address back (are_from st c.entries) line c.widths g) f
+  op_owes (o.Return line) numbers texts st s c f good same =
+      subst (λ q. StandsFor image q st s → Owes CodeAsks CodeDoes (op_code address (o.Return line)) (Arrives image (effect ir outermost (o.Return line) q st)) s) (none_is c.jumps)
+      (λ g. return_owes site address back (are_from st c.entries) line c.widths g) f
   op_owes (o.Raise error line) numbers texts st s c f good same = raise_owes address (record { numbers = numbers; texts = texts }) error line c.coded c.widths.1 f
   op_owes o.End numbers texts st s c f good same = end_owes address (record { numbers = numbers; texts = texts }) f
   op_owes (o.Enter kind routine line) numbers texts st s c f good same = absurd c.coded

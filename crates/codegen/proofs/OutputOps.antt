@@ -31,9 +31,9 @@ use Rattle.code_frag.specs.Runs.{SameCode}
 use Rattle.code_frag.specs.Regions.{residents_start, column_at, stack_start}
 use Rattle.code_frag.proofs.Rules.{end_here, seq_then, skip_then, set_then, write_then, new_line_then, store_then, pull_then, call_then}
 use Rattle.runtime_lib.specs.Entries.{CanWrite, Writes, WritesPart, column_in, bytes_from, text_at}
-use Rattle.codegen.specs.Operations.{op_code, reset_column, write_code}
+use Rattle.codegen.specs.Operations.{Named, op_code, reset_column, write_code}
 use Rattle.codegen.specs.Outcomes.{Arrives}
-use Rattle.codegen.specs.StandsFor.{Holds, Numbers, Texts, IsText, StandsFor}
+use Rattle.codegen.specs.StandsFor.{Site, Holds, Numbers, Texts, IsText, StandsFor}
 use Rattle.codegen.proofs.Arriving.{CodeAsks, CodeDoes, Free, without_top, free_room, IsShort, with_room, free_with_room, room_then, drop_end}
 use Rattle.codegen.proofs.PendingLaws.{numbers_room, numbers_kept, texts_room, texts_kept}
 use Rattle.codegen.proofs.StateLaws.{holds_wrote}
@@ -56,10 +56,10 @@ column-small out.Clear column small = omega arith
 column-small (out.Closing text line) column small = omega arith
 
 -- what is pending, after a part was written
-pub free_wrote : {image : ℕ → ℕ} {p : Pending} {st : State} {s t : Core} (part : Part) → Free image p st s → IsShort p → Writes (part_bytes part (column_in s)) (column_after part (column_in s)) s t → Free image p (wrote part st) t
+pub free_wrote : {image : Site} {p : Pending} {st : State} {s t : Core} (part : Part) → Free image p st s → IsShort p → Writes (part_bytes part (column_in s)) (column_after part (column_in s)) s t → Free image p (wrote part st) t
 free_wrote {image} {p} {st} {s} {t} part f short w =
     let room = free_room f in
-    let below = texts_room image s.mem (s.regs 9) (s.regs 10) p.texts f.texts in
+    let below = texts_room image.bytes s.mem (s.regs 9) (s.regs 10) p.texts f.texts in
     let column = f.holds.column in
     let eleven = w.kept 11 (omega arith) (omega arith) in
     let twelve = w.kept 12 (omega arith) (omega arith) in
@@ -73,13 +73,13 @@ free_wrote {image} {p} {st} {s} {t} part f short w =
       numbers = subst (λ q. Numbers t.mem (q + 4) (word t.mem q) p.numbers) (sym twelve)
           (subst (λ v. Numbers t.mem (s.regs 12 + 4) v p.numbers) (word-same s.mem t.mem (s.regs 12) (λ b low high. sym (same b low (omega (arith, high, room, short)))))
           (numbers_kept s.mem t.mem (s.regs 12 + 4) (word s.mem (s.regs 12)) p.numbers f.numbers (λ a low high. same a (omega (arith, low)) (omega (arith, high)))));
-      texts = subst (λ q. Texts image t.mem (t.regs 9) q p.texts) (sym ten)
-          (subst (λ q. Texts image t.mem q (s.regs 10) p.texts) (sym nine)
-          (texts_kept image s.mem t.mem (s.regs 9) (s.regs 10) p.texts f.texts (λ a low high. w.mem a (inr (omega (arith, low, below, short), omega (arith, high))))));
+      texts = subst (λ q. Texts image.bytes t.mem (t.regs 9) q p.texts) (sym ten)
+          (subst (λ q. Texts image.bytes t.mem q (s.regs 10) p.texts) (sym nine)
+          (texts_kept image.bytes s.mem t.mem (s.regs 9) (s.regs 10) p.texts f.texts (λ a low high. w.mem a (inr (omega (arith, low, below, short), omega (arith, high))))));
     }
 
 -- where a routine of the library may write
-pub can_write : {st : State} {s : Core} → Holds st (s.regs 11) (s.regs 13) s.mem s.out → CanWrite s
+pub can_write : {branches : ℕ} {st : State} {s : Core} → Holds branches st (s.regs 11) (s.regs 13) s.mem s.out → CanWrite s
 can_write h = record {
   base = h.base_is;
   aligned = omega (arith, h.stack_is);
@@ -88,7 +88,7 @@ can_write h = record {
   column = omega (arith, h.column, h.column_small);
 }
 
-module _ {image : ℕ → ℕ} {p : Pending} {st : State} {s : Core} where
+module _ {image : Site} {p : Pending} {st : State} {s : Core} where
   -- a routine that writes a part
   pub writes_then : {e : ℕ} {rest : language.Piece} {Q : Post} (part : Part) → Free image p st s → IsShort p → ((r : ℕ) → CodeAsks e (put 14 r s)) → ((r : ℕ) (o : Out) (t : Core) → CodeDoes e (put 14 r s) o t → WritesPart part (put 14 r s) o t)
       → ((t : Core) → Free image p (wrote part st) t → Owes CodeAsks CodeDoes rest Q t) → Owes CodeAsks CodeDoes (Call e ⨾ rest) Q s
@@ -97,7 +97,7 @@ module _ {image : ℕ → ℕ} {p : Pending} {st : State} {s : Core} where
       (λ r t low good d. owes t (free_wrote {s = put 14 r s} part (record { holds = f.holds; numbers = f.numbers; texts = f.texts }) short (does r demands.Falls t d).writes))
       (λ r l t low good d. absurd (let e = (does r (Leaves l) t d).falls in cc))
 
-module _ {image : ℕ → ℕ} {p : Pending} {st : State} {s : Core} (texts : ℕ → ℕ) where
+module _ {image : Site} {p : Pending} {st : State} {s : Core} (texts : Named) where
   -- a number
   pub write_number_owes : (padded : Bool) (format : NumberFormat) (value : ℤ) → StandsFor image (pushed value p) st s → IsShort p
       → Owes CodeAsks CodeDoes (op_code texts (o.WriteNumber padded format)) (Arrives image (Value (Falls p) (wrote (out.Number padded format value) st))) s
@@ -139,10 +139,10 @@ byte_then {s = s} byte small owes =
     seq_then (set_then (s.regs 0) refl refl (seq_then (set_then byte refl (immediate_value-byte byte small) (seq_then (write_then byte (omega (arith, small)) (seq_then (set_then (s.regs 0) refl refl (skip_then owes))))))))
 
 -- what is pending, after a part was written with R0 as it was
-stands_wrote : {image : ℕ → ℕ} {p : Pending} {st : State} {s t : Core} (part : Part) → StandsFor image p st s → IsShort p → Writes (part_bytes part (column_in s)) (column_after part (column_in s)) s t → t.regs 0 ≡ s.regs 0 → StandsFor image p (wrote part st) t
+stands_wrote : {image : Site} {p : Pending} {st : State} {s t : Core} (part : Part) → StandsFor image p st s → IsShort p → Writes (part_bytes part (column_in s)) (column_after part (column_in s)) s t → t.regs 0 ≡ s.regs 0 → StandsFor image p (wrote part st) t
 stands_wrote {image} {p} {st} {s} {t} part f short w same_top =
     let room = numbers_room s.mem (s.regs 12) (s.regs 0) p.numbers f.numbers in
-    let below = texts_room image s.mem (s.regs 9) (s.regs 10) p.texts f.texts in
+    let below = texts_room image.bytes s.mem (s.regs 9) (s.regs 10) p.texts f.texts in
     let column = f.holds.column in
     record {
       holds = holds_wrote st (s.regs 11) (s.regs 13) (t.regs 11) (t.regs 13) s.mem t.mem s.out t.out part f.holds (w.kept 11 (omega arith) (omega arith)) (w.kept 13 (omega arith) (omega arith))
@@ -150,9 +150,9 @@ stands_wrote {image} {p} {st} {s} {t} part f short w same_top =
       numbers = subst (λ q. Numbers t.mem (t.regs 12) q p.numbers) (sym same_top)
           (subst (λ q. Numbers t.mem q (s.regs 0) p.numbers) (sym (w.kept 12 (omega arith) (omega arith)))
           (numbers_kept s.mem t.mem (s.regs 12) (s.regs 0) p.numbers f.numbers (λ a low high. w.mem a (inr (omega (arith, low, room, short), omega (arith, high))))));
-      texts = subst (λ q. Texts image t.mem (t.regs 9) q p.texts) (sym (w.kept 10 (omega arith) (omega arith)))
-          (subst (λ q. Texts image t.mem q (s.regs 10) p.texts) (sym (w.kept 9 (omega arith) (omega arith)))
-          (texts_kept image s.mem t.mem (s.regs 9) (s.regs 10) p.texts f.texts (λ a low high. w.mem a (inr (omega (arith, low, below, short), omega (arith, high))))));
+      texts = subst (λ q. Texts image.bytes t.mem (t.regs 9) q p.texts) (sym (w.kept 10 (omega arith) (omega arith)))
+          (subst (λ q. Texts image.bytes t.mem q (s.regs 10) p.texts) (sym (w.kept 9 (omega arith) (omega arith)))
+          (texts_kept image.bytes s.mem t.mem (s.regs 9) (s.regs 10) p.texts f.texts (λ a low high. w.mem a (inr (omega (arith, low, below, short), omega (arith, high))))));
     }
 
 -- registers that pieces here don't change
@@ -165,7 +165,7 @@ outside : (a : ℕ) → (a < column_at) ⊎ ((column_at + 4 ≤ a) × (a < stack
 outside a (inl below) = inl below
 outside a (inr above) = inr above.0
 
-module _ {image : ℕ → ℕ} {p : Pending} {st : State} {s : Core} (texts : ℕ → ℕ) where
+module _ {image : Site} {p : Pending} {st : State} {s : Core} (texts : Named) where
   -- VDU, MODE, COLOUR, SPC and TAB
   pub write_owes : (x : Piece) (value : ℤ) → StandsFor image (pushed value p) st s → IsGood s → IsShort p
       → Owes CodeAsks CodeDoes (op_code texts (o.Write x)) (Arrives image (Value (Falls p) (wrote (piece x value) st))) s
@@ -216,7 +216,7 @@ module _ {image : ℕ → ℕ} {p : Pending} {st : State} {s : Core} (texts : �
         input = refl;
       }))))
 
-module _ {image : ℕ → ℕ} {p : Pending} {st : State} {s : Core} (texts : ℕ → ℕ) where
+module _ {image : Site} {p : Pending} {st : State} {s : Core} (texts : Named) where
   -- a comma, a new line, and CLS
   pub write_mark_owes : (x : Mark) → StandsFor image p st s → IsGood s → IsShort p
       → Owes CodeAsks CodeDoes (op_code texts (o.WriteMark x)) (Arrives image (Value (Falls p) (wrote (mark x) st))) s
@@ -265,25 +265,25 @@ bytes-same (suc n) a m k same =
     (λ i. first i ∷ rest i)
 
 -- a text of the image is in memory
-text-is : (image : ℕ → ℕ) (s : Core) (a : ℕ) (text : List ℕ) → IsText image a text → IsGood s → SameCode image s.mem → text_at s.mem a ≡ text
-text-is image s a text there good same =
+text-is : (code : ℕ → ℕ) (s : Core) (a : ℕ) (text : List ℕ) → IsText code a text → IsGood s → SameCode code s.mem → text_at s.mem a ≡ text
+text-is code s a text there good same =
     let len = same.kept a there.low (let h = there.high in omega (arith, h)) in
     let short = good.mem a in
-    bytes-same (s.mem a) (a + 1) s.mem image (λ b low high. same.kept b (let l = there.low in omega (arith, low, l)) (let h = there.high in omega (arith, high, h, short)))
-    ∙ ap (bytes_from image (a + 1)) len ∙ there.is
+    bytes-same (s.mem a) (a + 1) s.mem code (λ b low high. same.kept b (let l = there.low in omega (arith, low, l)) (let h = there.high in omega (arith, high, h, short)))
+    ∙ ap (bytes_from code (a + 1)) len ∙ there.is
 
 -- and so it is after a number went to the stack
-text-kept : {image : ℕ → ℕ} (s : Core) (a : ℕ) (text : List ℕ) → IsText image a text → IsGood s → SameCode image s.mem → (q : ℕ) → data_start ≤ q → text_at (put_word s.mem q (s.regs 0)) a ≡ text
-text-kept {image} s a text there good same q high =
+text-kept : {code : ℕ → ℕ} (s : Core) (a : ℕ) (text : List ℕ) → IsText code a text → IsGood s → SameCode code s.mem → (q : ℕ) → data_start ≤ q → text_at (put_word s.mem q (s.regs 0)) a ≡ text
+text-kept {code} s a text there good same q high =
     let end = there.high in
     let short = good.mem a in
     let elsewhere : (b : ℕ) → b < data_start → put_word s.mem q (s.regs 0) b ≡ s.mem b = λ b low. byte-put_other s.mem q (s.regs 0) b (inl (omega (arith, low, high))) in
     ap (bytes_from (put_word s.mem q (s.regs 0)) (a + 1)) (elsewhere a (omega (arith, end)))
-    ∙ bytes-same (s.mem a) (a + 1) (put_word s.mem q (s.regs 0)) s.mem (λ b low up. elsewhere b (omega (arith, up, end, short))) ∙ text-is image s a text there good same
+    ∙ bytes-same (s.mem a) (a + 1) (put_word s.mem q (s.regs 0)) s.mem (λ b low up. elsewhere b (omega (arith, up, end, short))) ∙ text-is code s a text there good same
 
-module _ {image : ℕ → ℕ} {st : State} {s : Core} (texts : ℕ → ℕ) where
+module _ {image : Site} {st : State} {s : Core} (texts : Named) where
   -- a string
-  pub write_text_owes : (p : Pending) (text : List ℕ) → StandsFor image (text_pushed text p) st s → IsGood s → SameCode image s.mem → IsShort (text_pushed text p)
+  pub write_text_owes : (p : Pending) (text : List ℕ) → StandsFor image (text_pushed text p) st s → IsGood s → SameCode image.bytes s.mem → IsShort (text_pushed text p)
       → Owes CodeAsks CodeDoes (op_code texts o.WriteText) (Arrives image (Value (Falls p) (wrote (out.Text text) st))) s
   write_text_owes p text f good same short =
       let q = text_pushed text p in
@@ -292,11 +292,11 @@ module _ {image : ℕ → ℕ} {st : State} {s : Core} (texts : ℕ → ℕ) whe
       let a = s.regs 10 in
       room_then f short
       (set_then a refl refl
-      (writes_then {p = q} {e = 8} (out.Text text) (record { holds = g.holds; numbers = g.numbers; texts = g.texts }) short (λ r. (can_write g.holds, let h = there.high in omega (arith, h)))
-      (λ r o t d. subst (λ l. WritesPart (out.Text l) (put 14 r (put 0 a (with_room s))) o t) (text-kept s a text there good same (s.regs 12 - 4) (let room = free_room g in omega (arith, room, short))) d)
+      (writes_then {image = image} {p = q} {e = 8} (out.Text text) (record { holds = g.holds; numbers = g.numbers; texts = g.texts }) short (λ r. (can_write g.holds, let h = there.high in omega (arith, h)))
+      (λ r o t d. subst (λ l. WritesPart (out.Text l) (put 14 r (put 0 a (with_room s))) o t) (text-kept {code = image.bytes} s a text there good same (s.regs 12 - 4) (let room = free_room g in omega (arith, room, short))) d)
       (λ t h.
       let room = free_room h in
-      let below = texts_room image t.mem (t.regs 9) (t.regs 10) q.texts h.texts in
+      let below = texts_room image.bytes t.mem (t.regs 9) (t.regs 10) q.texts h.texts in
       pull_then (t.regs 12) (word t.mem (t.regs 12)) (t.regs 12 + 4) refl refl (omega (arith, room)) (omega (arith, room)) (omega (arith, room))
       (λ small. pull_then (t.regs 9) (word t.mem (t.regs 9)) (t.regs 9 + 4) refl refl (omega (arith, below)) (omega (arith, below)) (omega (arith, below))
       (λ low. end_here (record { by = (refl, record { holds = h.holds; numbers = h.numbers; texts = h.texts.1 }) }))))))

@@ -32,6 +32,7 @@ use Rattle.code_frag.specs.Language.{Skip, ◌⨾◌}
 use Rattle.code_frag.proofs.Rules.{end_here, seq_then, skip_then, set_then, test_then, set_where_then, skip_where_then}
 use Rattle.codegen.specs.Operations.{binary_code, shift_where, shift_by, shift_out}
 use Rattle.codegen.specs.Outcomes.{Arrives}
+use Rattle.codegen.specs.StandsFor.{Site}
 use Rattle.codegen.proofs.Arriving.{CodeAsks, CodeDoes, Free}
 use Rattle.codegen.proofs.ArithmeticOps.{computed, computed_end}
 
@@ -184,12 +185,12 @@ signed_shifts = record {
 -- ---- the code
 
 -- the amount is in R0 and a number in R1, and the state stands as it was
-record Shifting (image : ℕ → ℕ) (p : Pending) (st : State) (a n : ℕ) (u : Core) : Type 0 where
+record Shifting (image : Site) (p : Pending) (st : State) (a n : ℕ) (u : Core) : Type 0 where
   free : Free image p st u
   amount : u.regs 0 ≡ a
   number : u.regs 1 ≡ n
 
-module _ {image : ℕ → ℕ} {p : Pending} {st : State} {rest : language.Piece} {Q : Post} {u : Core} (a n : ℕ) (is : Shifting image p st a n u) where
+module _ {image : Site} {p : Pending} {st : State} {rest : language.Piece} {Q : Post} {u : Core} (a n : ℕ) (is : Shifting image p st a n u) where
   -- R1 takes another number where a bit of the amount is 1
   where_then : (bit next : ℕ) (x : Second) (t : Bool) → bit < 256 → not (bit_and a bit == 0) ≡ t → ((v : Core) → v.regs 1 ≡ n → operand x v ≡ next)
       → ((v : Core) → Shifting image p st a (if t then next else n) v → Owes CodeAsks CodeDoes rest Q v) → Owes CodeAsks CodeDoes (shift_where bit x ⨾ rest) Q u
@@ -210,7 +211,7 @@ module _ {image : ℕ → ℕ} {p : Pending} {st : State} {rest : language.Piece
           skip_where_then (said ∙ tests)
           (skip_then (owes _ (record { free = record { holds = is.free.holds; numbers = is.free.numbers; texts = is.free.texts }; amount = is.amount; number = is.number })))
 
-module _ {by_bits : ℕ → ℕ → Second} {left : Second} {moved : ℕ → ℕ → ℕ} (laws : Shifts by_bits left moved) {image : ℕ → ℕ} {p : Pending} {st : State} where
+module _ {by_bits : ℕ → ℕ → Second} {left : Second} {moved : ℕ → ℕ → ℕ} (laws : Shifts by_bits left moved) {image : Site} {p : Pending} {st : State} where
   -- a bit of the amount adds what its place is worth to the shift
   bit_then : {rest : language.Piece} {Q : Post} {u : Core} (a n j k : ℕ) → k < 5 → n < 2 ^ 32 → Shifting image p st a (moved j n) u
       → ((v : Core) → Shifting image p st a (moved (j + bit_at a k * 2 ^ k) n) v → Owes CodeAsks CodeDoes rest Q v) → Owes CodeAsks CodeDoes (shift_where (2 ^ k) (by_bits 1 (2 ^ k)) ⨾ rest) Q u
@@ -312,7 +313,7 @@ quotient_is n k word = by (cases_lt n (2 ^ 31))
         ∙ ap (λ m. negsuc m) (ap (λ m. 2 ^ 32 - suc m) (signed_high k n high) ∙ (let back : 2 ^ 32 - suc (2 ^ 32 - 1 - c / 2 ^ k) ≡ c / 2 ^ k = omega (arith, less) in back))
         ∙ ap (λ z. floor_quotient z (2 ^ k)) (ap (λ m. negsuc m) (let same : c ≡ 2 ^ 32 - suc n = omega arith in same) ∙ sym (signed-high n high))
 
-module _ {image : ℕ → ℕ} {p : Pending} {st : State} {s : Core} (good : IsGood s) (f : Free image p st s) (line : ℕ) (fits : line < 65536) where
+module _ {image : Site} {p : Pending} {st : State} {s : Core} (good : IsGood s) (f : Free image p st s) (line : ℕ) (fits : line < 65536) where
   abbrev Owed : BinaryOp → Type 0
   Owed o = Owes CodeAsks CodeDoes (binary_code o line) (Arrives image (computed (of_two o (signed (s.regs 1)) (signed (s.regs 0))) line p st)) s
 

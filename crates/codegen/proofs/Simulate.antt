@@ -3,7 +3,7 @@ use Rattle.std.proofs.Common.{◌≡◌, ℕ, suc, ◌+◌, ◌*◌, ◌<◌, �
 use Rattle.std.specs.Prelude.{slice_get}
 use Rattle.bas_ir.specs.declared.ir.Ir.{Ir}
 use Rattle.bas_ir.specs.declared.op.Op.{Op}
-use Rattle.bas_ir.specs.Places.{start_of}
+use Rattle.bas_ir.specs.Places.{start_of, item_from}
 use Rattle.bas_sem.specs.State.{State}
 use Rattle.bv_run.specs.declared.report.Report.{Report}
 use Rattle.bv_run.specs.Outcome.{Outcome}
@@ -16,7 +16,7 @@ use Rattle.arm2_machine.specs.Step.{board_step}
 use Rattle.arm_core.specs.Core.{Core, IsAt, IsGood}
 use Rattle.arm_core.proofs.Arena.{arena-is}
 use Rattle.code_frag.specs.Demands.{Out, Post, Leaves, ToEnd, Owes}
-use Rattle.code_frag.specs.Language.{items, size, is_flat}
+use Rattle.code_frag.specs.Language.{Leave, items, size, is_flat}
 use Rattle.code_frag.specs.Regions.{error_texts_start}
 use Rattle.code_frag.specs.Runs.{Stands, IsCode, SameCode, Comes, Moved, EndsAt, Meets}
 use Rattle.code_frag.proofs.Loaded.{HasEnded, ends_run}
@@ -24,26 +24,34 @@ use Rattle.code_frag.proofs.RowLaws.{row_leads}
 use Rattle.code_frag.proofs.Rules.{call_then}
 use Rattle.code_frag.proofs.Sound.{sound}
 use Rattle.runtime_lib.specs.Entries.{HasErrorTexts, error_table}
+use Rattle.runtime_lib.specs.Routines.{routines_count}
 use Rattle.codegen.specs.Fitting.{CanGenerate}
 use Rattle.codegen.specs.Operations.{op_code, item_label, raise_label}
 use Rattle.codegen.specs.Outcomes.{Ends, Raises}
-use Rattle.codegen.specs.Program.{op_place, text_address, raiser, last_piece}
-use Rattle.codegen.specs.StandsFor.{HasArena, IsText}
+use Rattle.codegen.specs.Program.{op_place, op_size, named_at, branches_start, text_address, raiser, last_piece}
+use Rattle.codegen.specs.StandsFor.{Site, IsSite, HasArena, IsText}
 use Rattle.codegen.proofs.Arriving.{CodeAsks, CodeDoes}
 use Rattle.codegen.proofs.OutputOps.{bytes-same}
 use Rattle.codegen.proofs.StateLaws.{arena_kept}
 
--- the code of a program is in a memory: each piece at its place, the library, and the texts
+-- what an operation at a place finds in the image
+abbrev pub site_at : Ir → (ℕ → ℕ) → ℕ → Site
+site_at ir code pc = record { bytes = code; branches = branches_start ir; items = length ir.starts; next = item_from ir (suc pc) }
+
+-- the code of a program is in a memory: each piece at its place, the library, the branches to items, and the texts
 pub record Placed (ir : Ir) (code entry : ℕ → ℕ) (base : ℕ) : Type 0 where
-  pub stands : (pc : ℕ) (x : Op) → slice_get ir.ops pc ≡ Some x → Stands (items (op_code (text_address ir) x)) code entry (base + 4 * op_place ir pc)
-  pub lies : (pc : ℕ) (x : Op) → slice_get ir.ops pc ≡ Some x → IsCode (base + 4 * op_place ir pc) (size (op_code (text_address ir) x))
-  pub next : (pc : ℕ) (x : Op) → slice_get ir.ops pc ≡ Some x → op_place ir (suc pc) ≡ op_place ir pc + size (op_code (text_address ir) x)
+  pub stands : (pc : ℕ) (x : Op) → slice_get ir.ops pc ≡ Some x → Stands (items (op_code (named_at ir pc) x)) code entry (base + 4 * op_place ir pc)
+  pub lies : (pc : ℕ) (x : Op) → slice_get ir.ops pc ≡ Some x → IsCode (base + 4 * op_place ir pc) (op_size x)
+  pub next : (pc : ℕ) (x : Op) → slice_get ir.ops pc ≡ Some x → op_place ir (suc pc) ≡ op_place ir pc + op_size x
   pub last_stands : Stands (items last_piece) code entry (base + 4 * op_place ir (length ir.ops))
   pub last_lies : IsCode (base + 4 * op_place ir (length ir.ops)) (size last_piece)
   pub raise_stands : Stands (items raiser) code entry (entry raise_label)
   pub raise_lies : IsCode (entry raise_label) (size raiser)
   pub item : (item : ℕ) → item ≤ length ir.starts → entry (item_label item) ≡ base + 4 * op_place ir (start_of ir item)
-  pub meets : (label : ℕ) → label < 13 → Meets code entry CodeAsks CodeDoes (label + 1)
+  pub branch_stands : (item : ℕ) → item ≤ length ir.starts → Stands (items (Leave (item_label item))) code entry (branches_start ir + 4 * item)
+  pub branch_lies : (item : ℕ) → item ≤ length ir.starts → IsCode (branches_start ir + 4 * item) 1
+  pub sites : (pc : ℕ) (x : Op) → slice_get ir.ops pc ≡ Some x → IsSite (site_at ir code pc)
+  pub meets : (label : ℕ) → label < routines_count → Meets code entry CodeAsks CodeDoes (label + 1)
   pub literals : (number : ℕ) → number < length ir.texts → IsText code (text_address ir number) (slice_index_or ir.texts number [])
   pub error_texts : HasErrorTexts code
 

@@ -20,8 +20,8 @@ use Rattle.arm_core.proofs.Arena.{byte_of}
 use Rattle.arm_core.proofs.Start.{loaded-is}
 use Rattle.arm_core.specs.Core.{Core, word, first_core}
 use Rattle.code_frag.specs.Places.{data_start}
-use Rattle.code_frag.specs.Regions.{residents_start, column_at, numbers_end, texts_end, stack_end}
-use Rattle.codegen.specs.StandsFor.{IsCell, cell_at, StandsFor}
+use Rattle.code_frag.specs.Regions.{residents_start, column_at, opened_count_at, depth_at, numbers_end, texts_end, stack_end}
+use Rattle.codegen.specs.StandsFor.{Site, IsCell, cell_at, StandsFor}
 
 -- a memory that is 0 in the arena and where data is stored
 pub record IsClear (m : ℕ → ℕ) : Type 0 where
@@ -68,9 +68,9 @@ word-clear m a clear low high =
     omega (arith, first, second, third, fourth)
 
 -- where a run begins
-pub stands_start : (code : ℕ → ℕ) (names : List Name) (input : List ℕ) (steps : ℕ) (s : Core) → length names ≤ limit.names → IsClear s.mem → s.out ≡ [] → s.regs 11 ≡ residents_start → s.regs 13 ≡ stack_end → s.regs 12 ≡ numbers_end → s.regs 9 ≡ texts_end
-    → StandsFor code nothing (start names input steps) s
-stands_start code names input steps s few clear out base stack numbers texts = record {
+pub stands_start : (site : Site) (names : List Name) (input : List ℕ) (steps : ℕ) (s : Core) → length names ≤ limit.names → IsClear s.mem → s.out ≡ [] → s.regs 11 ≡ residents_start → s.regs 13 ≡ stack_end → s.regs 12 ≡ numbers_end → s.regs 9 ≡ texts_end
+    → StandsFor site nothing (start names input steps) s
+stands_start site names input steps s few clear out base stack numbers texts = record {
   holds = record {
     base_is = base;
     stack_is = stack;
@@ -82,8 +82,10 @@ stands_start code names input steps s few clear out base stack numbers texts = r
       few = omega (arith, few, length-replicate {A = Option ℤ} (length names) None);
       each = λ name low.
           let inside : name < length names = omega (arith, low, length-replicate {A = Option ℤ} (length names) None) in
-          subst (λ v. IsCell (word s.mem (cell_at name + 4)) (signed (word s.mem (cell_at name))) v) (sym (get_or-replicate (length names) name None None inside)) (word-clear s.mem (cell_at name + 4) clear (omega arith) (omega (arith, inside, few)));
+          subst (λ v. IsCell (word s.mem (cell_at name + 4)) (signed (word s.mem (cell_at name))) v) (sym (get_or-replicate (length names) name None None inside)) (word-clear s.mem (cell_at name + 4) clear (omega arith) (omega (arith, inside, few)), ap signed (word-clear s.mem (cell_at name) clear (omega arith) (omega (arith, inside, few))));
     };
+    has_opened = record { count = word-clear s.mem opened_count_at clear (omega arith) (omega arith); few = omega arith; entries = tt };
+    depth = word-clear s.mem depth_at clear (omega arith) (omega arith);
     column = word-clear s.mem column_at clear (omega arith) (omega arith);
     column_small = omega arith;
     has_arena = record { count = length-zeros arena_bytes; each = λ k low. clear.arena k low ∙ sym (zero_in arena_bytes k) };

@@ -1,12 +1,12 @@
 -- The image of a flat code agrees with it: on every input, the board ends exactly where the flat machine does.
-use Rattle.std.proofs.Common.{◌≡◌, ℕ, zero, suc, ◌+◌, ◌*◌, ◌^◌, ◌<◌, ◌≤◌, ◌⊎◌, inl, inr, ℤ, List, [], ◌∷◌, ◌++◌, length, take, flat_map, Option, Some, None, slice_index, refl, sym, ap, subst, ◌∙◌, arith}
+use Rattle.std.proofs.Common.{◌≡◌, ℕ, zero, suc, ◌+◌, ◌*◌, ◌^◌, ◌<◌, ◌≤◌, ◌⊎◌, inl, inr, Bool, true, false, ℤ, List, [], ◌∷◌, ◌++◌, length, take, flat_map, Option, Some, None, slice_index, slice_index_or, refl, sym, ap, subst, ◌∙◌, arith}
 use Rattle.std.specs.Prelude.{slice_get}
 use Rattle.std.proofs.lemmas.Bool.{cases_lt}
 use Rattle.std.proofs.lemmas.List.{get_or_past, length-append, length-replicate}
 use Rattle.bas_ir.specs.declared.ir.Ir.{Ir}
 use Rattle.bas_ir.specs.declared.op.Op.{Op}
 use Rattle.bas_ir.specs.Machine.{flat_run}
-use Rattle.bas_ir.specs.Places.{nothing, start_of, marks_in}
+use Rattle.bas_ir.specs.Places.{nothing, start_of, marks_in, item_from, is_marked}
 use Rattle.bas_ir.specs.WellFormed.{IsLaidOut}
 use Rattle.bas_sem.specs.State.{start}
 use Rattle.bv_base.specs.Limits.{file_bytes, image_words}
@@ -41,15 +41,16 @@ use Rattle.runtime_lib.proofs.LibraryLaws.{library_meets}
 use Rattle.codegen.specs.Agrees.{AreBytes, Agrees}
 use Rattle.codegen.specs.Fitting.{CanGenerate}
 use Rattle.codegen.specs.Operations.{main_label, item_label, op_code}
-use Rattle.codegen.specs.Program.{program, data_bytes, raiser, prologue, last_piece, op_items, library_place, raise_place, main_place, op_place, text_address, text_bytes}
+use Rattle.codegen.specs.Program.{program, data_bytes, raiser, prologue, last_piece, named, named_at, op_size, ops_size, all_op_items, library_place, branches_place, branches_start, raise_place, main_place, op_place, text_address, text_bytes}
+use Rattle.codegen.specs.StandsFor.{IsSite}
 use Rattle.codegen.proofs.Arriving.{CodeAsks, CodeDoes, load_then}
 use Rattle.codegen.proofs.Bound.{program-bound}
-use Rattle.codegen.proofs.Image.{PartsStand, parts_stand, length-program, take_whole, main-address, raise-address, routine-address, item-address, end-address}
-use Rattle.codegen.proofs.PlacedOps.{used-suc, used-le, op_stands}
+use Rattle.codegen.proofs.Image.{PartsStand, parts_stand, length-program, whole-size, branch_stands, main-address, raise-address, routine-address, item-address, end-address}
+use Rattle.codegen.proofs.PlacedOps.{used-suc, used-le, length-op_items, op_stands}
 use Rattle.codegen.proofs.Running as running
 use Rattle.codegen.proofs.Running.{made_some, follow_run}
 use Rattle.codegen.proofs.Simulate as simulate
-use Rattle.codegen.proofs.Simulate.{Placed}
+use Rattle.codegen.proofs.Simulate.{Placed, site_at}
 use Rattle.codegen.proofs.Start.{IsClear, loaded_clear, stands_start}
 use Rattle.codegen.proofs.Texts.{packed_in, front_in, text_in, length-packed}
 
@@ -81,6 +82,20 @@ taken-le (text ∷ texts) (suc number) =
     let rest = taken-le texts number in
     omega (arith, some, all, rest)
 
+-- some of the marks are no more than all
+marks-taken : (xs : List Bool) (k : ℕ) → marks_in (take k xs) ≤ marks_in xs
+marks-taken [] zero = omega arith
+marks-taken [] (suc k) = omega arith
+marks-taken (x ∷ xs) zero = omega arith
+marks-taken (true ∷ xs) (suc k) = let rest = marks-taken xs k in omega (arith, rest)
+marks-taken (false ∷ xs) (suc k) = marks-taken xs k
+
+-- the first mark is among the first ones
+first_counted : (xs : List Bool) (k : ℕ) → slice_index_or xs 0 false ≡ true → 1 ≤ marks_in (take (suc k) xs)
+first_counted [] k is = absurd (cc is)
+first_counted (true ∷ xs) k is = omega arith
+first_counted (false ∷ xs) k is = absurd (cc is)
+
 module _ (ir : Ir) (can : CanGenerate ir) (code : ℕ → ℕ) (good : (b : ℕ) → code b < 2 ^ 8) (bytes : AreBytes (data_bytes ir)) (few : length (program ir).items ≤ image_words)
     (h : Stands (program ir).items code (label_address (program ir).places image_start) image_start) where
   abbrev entry : ℕ → ℕ
@@ -94,31 +109,75 @@ module _ (ir : Ir) (can : CanGenerate ir) (code : ℕ → ℕ) (good : (b : ℕ)
 
   -- all of it ends before the data
   last_within : op_place ir (length ir.ops) + 2 ≤ image_words
-  last_within = let n = length-program ir in omega (arith, n, few)
+  last_within = let n = length-program ir laid.marks in omega (arith, n, few)
 
-  next : (pc : ℕ) (x : Op) → slice_get ir.ops pc ≡ Some x → op_place ir (suc pc) ≡ op_place ir pc + size (op_code (text_address ir) x)
-  next pc x there = let u = used-suc (text_address ir) ir.ops pc x there in omega (arith, u)
+  next : (pc : ℕ) (x : Op) → slice_get ir.ops pc ≡ Some x → op_place ir (suc pc) ≡ op_place ir pc + op_size x
+  next pc x there = let u = used-suc ir.ops pc x there in omega (arith, u)
 
   within : (pc : ℕ) → op_place ir pc ≤ op_place ir (length ir.ops)
   within pc =
-      let some = used-le (text_address ir) ir.ops pc in
-      let whole = ap (λ l. length (op_items (text_address ir) l)) (take_whole ir.ops) in
+      let some = used-le ir.ops pc in
+      let whole = whole-size ir.ops in
       omega (arith, some, whole)
 
   -- code lies where it may
   lies_at : (place n : ℕ) → place + n ≤ image_words → IsCode (image_start + 4 * place) n
   lies_at place n inside = record { low = omega arith; aligned = omega arith; high = omega (arith, inside) }
 
-  stands : (pc : ℕ) (x : Op) → slice_get ir.ops pc ≡ Some x → Stands (items (op_code (text_address ir) x)) code entry (image_start + 4 * op_place ir pc)
+  stands : (pc : ℕ) (x : Op) → slice_get ir.ops pc ≡ Some x → Stands (items (op_code (named_at ir pc) x)) code entry (image_start + 4 * op_place ir pc)
+  unfolding item_from
   stands pc x there =
-      subst (Stands (items (op_code (text_address ir) x)) code entry) (omega arith)
-      (op_stands (text_address ir) ir.ops (items last_piece) code entry (image_start + 4 * (main_place ir + size prologue)) pc x there parts.ops)
+      let begins = image_start + 4 * (main_place ir + size prologue) in
+      let counted : 0 + marks_in (take (suc pc) ir.marks) ≡ marks_in (take (suc pc) ir.marks) = omega arith in
+      subst (Stands (items (op_code (named_at ir pc) x)) code entry) (let e : begins + 4 * ops_size (take pc ir.ops) ≡ image_start + 4 * op_place ir pc = omega arith in e)
+      (subst (λ n. Stands (items (op_code (named (text_address ir) (branches_start ir) n) x)) code entry (begins + 4 * ops_size (take pc ir.ops))) counted
+      (op_stands (text_address ir) (branches_start ir) ir.ops ir.marks 0 (items last_piece) code entry begins pc x laid.marks there parts.ops))
 
   last_stands : Stands (items last_piece) code entry (image_start + 4 * op_place ir (length ir.ops))
   last_stands =
-      let whole = ap (λ l. length (op_items (text_address ir) l)) (take_whole ir.ops) in
-      subst (Stands (items last_piece) code entry) (omega (arith, whole))
-      (stands_after (op_items (text_address ir) ir.ops) (items last_piece) code entry (image_start + 4 * (main_place ir + size prologue)) parts.ops)
+      let own = length-op_items (text_address ir) (branches_start ir) ir.ops ir.marks 0 laid.marks in
+      let whole = whole-size ir.ops in
+      subst (Stands (items last_piece) code entry) (omega (arith, own, whole))
+      (stands_after (all_op_items ir) (items last_piece) code entry (image_start + 4 * (main_place ir + size prologue)) parts.ops)
+
+  -- the branches to items come before the program, and end before the data
+  branches_within : branches_place ir + (length ir.starts + 1) ≤ image_words
+  branches_within =
+      let a = within 0 in
+      let b = last_within in
+      let n = can.in_items.marked in
+      omega (arith, a, b, n)
+
+  branch_there : (item : ℕ) → item ≤ length ir.starts → Stands (items (Leave (item_label item))) code entry (branches_start ir + 4 * item)
+  branch_there item low =
+      let n = can.in_items.marked in
+      subst (λ k. Stands (items (Leave (item_label k))) code entry (branches_start ir + 4 * item)) (let e : 0 + item ≡ item = omega arith in e)
+      (branch_stands (marks_in ir.marks + 1) 0 item code entry (branches_start ir) (omega (arith, low, n)) parts.branches)
+
+  -- there is an item where there is an operation, and it begins at the first one
+  some_item : (pc : ℕ) (x : Op) → slice_get ir.ops pc ≡ Some x → 0 < length ir.starts
+  some_item pc x there = by (cases_lt 0 (length ir.starts))
+    where
+      some_op : (ops : List Op) (k : ℕ) → slice_get ops k ≡ Some x → 0 < length ops
+      some_op [] k e = absurd (cc e)
+      some_op (y ∷ ops) k e = omega arith
+
+      by : (0 < length ir.starts) ⊎ (length ir.starts ≤ 0) → 0 < length ir.starts
+      by (inl some) = some
+      by (inr none) = let e = end_place ir 0 none in let first = can.in_items.first in let some = some_op ir.ops pc there in absurd (omega (arith, e, first, some))
+
+  first_marked : (pc : ℕ) (x : Op) → slice_get ir.ops pc ≡ Some x → is_marked ir 0 ≡ true
+  first_marked pc x there = subst (λ k. is_marked ir k ≡ true) can.in_items.first (laid.starts 0 (some_item pc x there)).0
+
+  site : (pc : ℕ) (x : Op) → slice_get ir.ops pc ≡ Some x → IsSite (site_at ir code pc)
+  unfolding item_from is_marked
+  site pc x there = record {
+    low = omega arith;
+    aligned = omega arith;
+    high = (let w = branches_within in omega (arith, w));
+    after = first_counted ir.marks pc (first_marked pc x there);
+    within = (let some = marks-taken ir.marks (suc pc) in let n = can.in_items.marked in omega (arith, some, n));
+  }
 
   -- items begin at their labels
   item_begins : (item : ℕ) → item ≤ length ir.starts → entry (item_label item) ≡ image_start + 4 * op_place ir (start_of ir item)
@@ -160,13 +219,16 @@ module _ (ir : Ir) (can : CanGenerate ir) (code : ℕ → ℕ) (good : (b : ℕ)
   placed : Placed ir code entry image_start
   placed = record {
     stands = stands;
-    lies = λ pc x there. lies_at (op_place ir pc) (size (op_code (text_address ir) x)) (let n = next pc x there in let w = within (suc pc) in let l = last_within in omega (arith, n, w, l));
+    lies = λ pc x there. lies_at (op_place ir pc) (op_size x) (let n = next pc x there in let w = within (suc pc) in let l = last_within in omega (arith, n, w, l));
     next = next;
     last_stands = last_stands;
     last_lies = lies_at (op_place ir (length ir.ops)) 2 last_within;
     raise_stands = subst (Stands (items raiser) code entry) (sym (raise-address ir image_start)) parts.raising;
     raise_lies = subst (λ a. IsCode a (size raiser)) (sym (raise-address ir image_start)) (lies_at (raise_place ir) 1 (let a = within 0 in let b = last_within in omega (arith, a, b)));
     item = item_begins;
+    branch_stands = branch_there;
+    branch_lies = λ item low. subst (λ a. IsCode a 1) (let e : image_start + 4 * (branches_place ir + item) ≡ branches_start ir + 4 * item = omega arith in e) (lies_at (branches_place ir + item) 1 (let w = branches_within in omega (arith, low, w)));
+    sites = site;
     meets = λ label low. library_meets code entry (image_start + 4 * library_place ir) 1 library_stands label low;
     literals = λ number low. record { low = omega arith; high = text-high number; is = text_in code error_table ir.texts number error_texts_start low texts_in };
     error_texts = front_in code error_table (flat_map text_bytes ir.texts) error_texts_start texts_in;
@@ -264,8 +326,9 @@ image_agrees ir can bytes frag few input small =
       inside = first.0;
       heights = first.1;
       names = length-replicate {A = Option ℤ} (length ir.names) None;
+      entries = tt;
       same = a.same;
-      stands_for = stands_start s.mem ir.names input (2 * n) a.core (can.well_formed.few_names) (subst IsClear (sym a.begun.mem) clear) (a.begun.out) a.begun.base a.begun.stack a.begun.numbers a.begun.texts;
+      stands_for = stands_start (site_at ir s.mem (start_of ir 0)) ir.names input (2 * n) a.core (can.well_formed.few_names) (subst IsClear (sym a.begun.mem) clear) (a.begun.out) a.begun.base a.begun.stack a.begun.numbers a.begun.texts;
       is = subst (λ k. IsAt a.core (image_start + 4 * op_place ir k) a.machine) (sym start_at) a.is;
       written = a.begun.out;
     }) (omega arith))) in
@@ -274,7 +337,7 @@ image_agrees ir can bytes frag few input small =
 -- an image is short enough
 pub short-enough : (ir : Ir) → CanGenerate ir → ir.size ≤ file_bytes → length (program ir).items ≤ image_words
 short-enough ir can small =
-    let bound = program-bound ir in
+    let bound = program-bound ir can.well_formed.laid_out.marks can.in_items.marked in
     let short = can.well_formed.short in
     omega (arith, bound, short, small)
 

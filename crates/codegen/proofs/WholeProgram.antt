@@ -1,15 +1,16 @@
 -- What is put together step by step is the whole code of a program.
-use Rattle.std.proofs.Common.{◌≡◌, ℕ, zero, suc, ◌+◌, ◌<◌, ◌≤◌, Bool, true, false, List, [], ◌∷◌, ◌++◌, length, map, get_or, take, replicate, slice_get, slice_set, Option, Some, None, refl, sym, ap, ◌∙◌, arith, append_assoc, append-nil, length-append}
+use Rattle.std.proofs.Common.{◌≡◌, ℕ, zero, suc, ◌+◌, ◌*◌, ◌<◌, ◌≤◌, Bool, true, false, List, [], ◌∷◌, ◌++◌, length, map, get_or, take, replicate, slice_get, slice_set, Option, Some, None, refl, sym, ap, ◌∙◌, arith, append_assoc, append-nil, length-append}
 use Rattle.std.proofs.Math.Seq.{set-append_seam}
 use Rattle.std.specs.List.{list_all}
 use Rattle.std.proofs.lemmas.Bool.{false≢true, and_from}
 use Rattle.std.proofs.lemmas.List.Folds.{list_all-append}
-use Rattle.std.proofs.lemmas.List.{take_all, length-map, length-replicate}
+use Rattle.std.proofs.lemmas.List.{length-map, length-replicate}
 use Rattle.bas_ir.specs.declared.ir.Ir.{Ir}
 use Rattle.bas_ir.specs.declared.op.Op.{Op}
 use Rattle.bas_ir.specs.declared.op.Op.TheVariants as o
 use Rattle.bas_ir.specs.Places.{marks_in, is_marked, item_from, start_of}
 use Rattle.bas_ir.specs.WellFormed.{IsLaidOut}
+use Rattle.bv_base.specs.MemoryMap.{image_start}
 use Rattle.arm_isa.specs.Words.{means}
 use Rattle.code_frag.specs.declared.item.Item.{Item}
 use Rattle.code_frag.specs.declared.item.Item.TheVariants.{Ins}
@@ -18,11 +19,15 @@ use Rattle.code_frag.specs.Words.{FragState, IsOpen, AllPlaced, is_placed, shift
 use Rattle.code_frag.proofs.Branches.{length-items}
 use Rattle.code_frag.proofs.JoinLaws.{placed-shifted}
 use Rattle.runtime_lib.specs.Library.{library}
-use Rattle.codegen.specs.Operations.{main_label, raise_label, item_label, op_code}
-use Rattle.codegen.specs.Program.{data_bytes, packed, data_items, header, prologue, raiser, last_piece, op_items, text_address, library_place, raise_place, main_place, op_place, item_places, program}
+use Rattle.runtime_lib.specs.Routines.{routines_count}
+use Rattle.codegen.specs.Operations.{Named, main_label, raise_label, item_label, op_code}
+use Rattle.codegen.specs.Program.{data_bytes, packed, data_items, header, prologue, raiser, last_piece, branch_items, named, op_items, op_size, all_op_items, text_address, library_place, branches_place, branches_start, raise_place, main_place, op_place, item_places, program}
 use Rattle.codegen.specs.Emission.{LeadsInto, with_code}
-use Rattle.codegen.specs.Placing.{with_labels, with_place, with_op, with_ops, front, with_library, with_beginning, with_program, AreOpen}
+use Rattle.codegen.specs.Placing.{with_labels, with_place, with_op, with_ops, front, with_library, with_branches, with_beginning, with_program, AreOpen}
 use Rattle.codegen.proofs.EmitLaws.{get_set_other, length_set}
+use Rattle.codegen.proofs.Image.{length-branches, whole-size}
+use Rattle.codegen.proofs.OpFacts.{size-named}
+use Rattle.codegen.proofs.PlacedOps.{length-op_items, length-item_places}
 
 -- ---- each item has a mark
 
@@ -45,6 +50,9 @@ starts_marked ir (suc n) laid is =
 pub leads : (ir : Ir) → IsLaidOut ir → (n : ℕ) → n ≡ item_label (marks_in ir.marks) + 1 → (pc : ℕ) (op : Op) → slice_get ir.ops pc ≡ Some op → LeadsInto n op
 leads ir laid n labels pc (o.Go item) there = let few = starts_marked ir (length ir.starts) laid refl in omega (arith, labels, few, laid.reached pc (o.Go item) there)
 leads ir laid n labels pc (o.GoIfZero item) there = let few = starts_marked ir (length ir.starts) laid refl in omega (arith, labels, few, laid.reached pc (o.GoIfZero item) there)
+leads ir laid n labels pc (o.GoIfOne item) there = let few = starts_marked ir (length ir.starts) laid refl in omega (arith, labels, few, laid.reached pc (o.GoIfOne item) there)
+leads ir laid n labels pc (o.GosubIfOne item line) there = let few = starts_marked ir (length ir.starts) laid refl in omega (arith, labels, few, laid.reached pc (o.GosubIfOne item line) there)
+leads ir laid n labels pc (o.Gosub item line) there = let few = starts_marked ir (length ir.starts) laid refl in omega (arith, labels, few, laid.reached pc (o.Gosub item line) there)
 leads ir laid n labels pc (o.Push value) there = tt
 leads ir laid n labels pc o.PushColumn there = tt
 leads ir laid n labels pc (o.PushResident index) there = tt
@@ -58,6 +66,16 @@ leads ir laid n labels pc (o.WriteNumber padded format) there = tt
 leads ir laid n labels pc o.WriteText there = tt
 leads ir laid n labels pc (o.Write part) there = tt
 leads ir laid n labels pc (o.WriteMark mark) there = tt
+leads ir laid n labels pc o.Discard there = tt
+leads ir laid n labels pc (o.RaiseIfOne error line) there = tt
+leads ir laid n labels pc (o.OpenFor counter line) there = tt
+leads ir laid n labels pc (o.OpenRepeat line) there = tt
+leads ir laid n labels pc (o.OpenWhile line) there = tt
+leads ir laid n labels pc (o.Next counter line) there = tt
+leads ir laid n labels pc (o.NextAny line) there = tt
+leads ir laid n labels pc (o.Until line) there = tt
+leads ir laid n labels pc (o.EndWhile line) there = tt
+leads ir laid n labels pc (o.Return line) there = tt
 leads ir laid n labels pc (o.Raise error line) there = tt
 leads ir laid n labels pc o.End there = tt
 leads ir laid n labels pc (o.Enter kind routine line) there = tt
@@ -75,48 +93,39 @@ leads ir laid n labels pc o.HandleNone there = tt
 abbrev pub the_state : List Item → List (Option ℕ) → FragState
 the_state is places = record { items = is; places = places }
 
-length_code : (texts : ℕ → ℕ) (op : Op) (is : List Item) → length (is ++ items (op_code texts op)) ≡ length is + size (op_code texts op)
-length_code texts op is = length-append is (items (op_code texts op)) ∙ ap (λ n. length is + n) (length-items (op_code texts op))
+length_code : (n : Named) (op : Op) (is : List Item) → length (is ++ items (op_code n op)) ≡ length is + op_size op
+length_code n op is = length-append is (items (op_code n op)) ∙ ap (λ k. length is + k) (length-items (op_code n op) ∙ size-named n op)
 
 -- labels without places
 abbrev nones : ℕ → List (Option ℕ)
 nones n = replicate n None
 
-with_ops-is : (texts : ℕ → ℕ) (ops : List Op) (xs : List Bool) (item : ℕ) (placed : List (Option ℕ)) (f : FragState) → length placed ≡ item_label item → f.places ≡ placed ++ nones (marks_in xs + 1) → length xs ≡ length ops
-    → with_ops texts ops xs item f ≡ record { items = f.items ++ op_items texts ops; places = placed ++ (item_places texts ops xs (length f.items) ++ None ∷ []) }
-with_ops-is texts [] [] item placed f count places laid = λ i. record { items = sym (append-nil f.items) i; places = places i }
-with_ops-is texts [] (mark ∷ xs) item placed f count places laid = absurd (omega (arith, laid))
-with_ops-is texts (op ∷ ops) [] item placed f count places laid = absurd (omega (arith, laid))
-with_ops-is texts (op ∷ ops) (true ∷ xs) item placed f count places laid =
+with_ops-is : (texts : ℕ → ℕ) (branches : ℕ) (ops : List Op) (xs : List Bool) (item : ℕ) (placed : List (Option ℕ)) (f : FragState) → length placed ≡ item_label item → f.places ≡ placed ++ nones (marks_in xs + 1) → length xs ≡ length ops
+    → with_ops texts branches ops xs item f ≡ record { items = f.items ++ op_items texts branches ops xs item; places = placed ++ (item_places ops xs (length f.items) ++ None ∷ []) }
+with_ops-is texts branches [] [] item placed f count places laid = λ i. record { items = sym (append-nil f.items) i; places = places i }
+with_ops-is texts branches [] (mark ∷ xs) item placed f count places laid = absurd (omega (arith, laid))
+with_ops-is texts branches (op ∷ ops) [] item placed f count places laid = absurd (omega (arith, laid))
+with_ops-is texts branches (op ∷ ops) (true ∷ xs) item placed f count places laid =
     let here : Option ℕ = Some (length f.items) in
+    let code = op_code (named texts branches (item + 1)) op in
     let first : nones (marks_in (true ∷ xs) + 1) ≡ None ∷ nones (marks_in xs + 1) = ap nones (let e : marks_in (true ∷ xs) + 1 ≡ suc (marks_in xs + 1) = omega arith in e) in
     let label : length (placed ++ here ∷ []) ≡ item_label (item + 1) = omega (arith, length-append placed (here ∷ []), count) in
     let set_there : slice_set f.places (item_label item) here ≡ (placed ++ here ∷ []) ++ nones (marks_in xs + 1) =
     (λ i. slice_set ((places ∙ ap (λ rest. placed ++ rest) first) i) (sym count i) here) ∙ set-append_seam placed None (nones (marks_in xs + 1)) here ∙ sym (append_assoc placed (here ∷ []) (nones (marks_in xs + 1))) in
-    with_ops-is texts ops xs (item + 1) (placed ++ here ∷ []) (with_op texts op true item f) label set_there (omega (arith, laid))
+    with_ops-is texts branches ops xs (item + 1) (placed ++ here ∷ []) (with_op texts branches op true item f) label set_there (omega (arith, laid))
     ∙ (λ i. record {
-      items = append_assoc f.items (items (op_code texts op)) (op_items texts ops) i;
-      places = (append_assoc placed (here ∷ []) (item_places texts ops xs (length (f.items ++ items (op_code texts op))) ++ None ∷ [])
-          ∙ ap (λ n. placed ++ (here ∷ (item_places texts ops xs n ++ None ∷ []))) (length_code texts op f.items)) i;
+      items = append_assoc f.items (items code) (op_items texts branches ops xs (item + 1)) i;
+      places = (append_assoc placed (here ∷ []) (item_places ops xs (length (f.items ++ items code)) ++ None ∷ [])
+          ∙ ap (λ n. placed ++ (here ∷ (item_places ops xs n ++ None ∷ []))) (length_code (named texts branches (item + 1)) op f.items)) i;
     })
-with_ops-is texts (op ∷ ops) (false ∷ xs) item placed f count places laid =
-    with_ops-is texts ops xs item placed (with_op texts op false item f) count places (omega (arith, laid))
+with_ops-is texts branches (op ∷ ops) (false ∷ xs) item placed f count places laid =
+    with_ops-is texts branches ops xs item placed (with_op texts branches op false item f) count places (omega (arith, laid))
     ∙ (λ i. record {
-      items = append_assoc f.items (items (op_code texts op)) (op_items texts ops) i;
-      places = placed ++ (item_places texts ops xs (length_code texts op f.items i) ++ None ∷ []);
+      items = append_assoc f.items (items (op_code (named texts branches item) op)) (op_items texts branches ops xs item) i;
+      places = placed ++ (item_places ops xs (length_code (named texts branches item) op f.items i) ++ None ∷ []);
     })
-
-length_places : (texts : ℕ → ℕ) (ops : List Op) (xs : List Bool) (at : ℕ) → length xs ≡ length ops → length (item_places texts ops xs at) ≡ marks_in xs
-length_places texts [] [] at laid = refl
-length_places texts [] (mark ∷ xs) at laid = absurd (omega (arith, laid))
-length_places texts (op ∷ ops) [] at laid = absurd (omega (arith, laid))
-length_places texts (op ∷ ops) (true ∷ xs) at laid = ap suc (length_places texts ops xs (at + size (op_code texts op)) (omega (arith, laid)))
-length_places texts (op ∷ ops) (false ∷ xs) at laid = length_places texts ops xs (at + size (op_code texts op)) (omega (arith, laid))
 
 -- ---- pieces one after another
-
-with_code-seq : (a b : Piece) (f : FragState) → with_code b (with_code a f) ≡ with_code (a ⨾ b) f
-with_code-seq a b f = λ i. record { items = append_assoc f.items (items a) (items b) i; places = f.places }
 
 pub four_pieces : (a b c d : Piece) (f g h k : FragState) → g ≡ with_code a f → h ≡ with_code b g → k ≡ with_code c h → with_code d k ≡ with_code (a ⨾ b ⨾ c ⨾ d ⨾ Skip) f
 four_pieces a b c d f g h k first second third =
@@ -140,7 +149,7 @@ pub with_library-is : (ir : Ir) (marks : List Bool) (f g lib : FragState) → ma
 unfolding with_library
 with_library-is ir marks f g lib same first second third = λ i. with_labels (marks_in (same i) + 2) ((third ∙ (λ j. joined (first j) (second j))) i)
 
-count_library : length library.places ≡ 13
+count_library : length library.places ≡ routines_count
 unfolding library
 count_library = refl
 
@@ -148,7 +157,7 @@ count_library = refl
 abbrev moved : ℕ → List (Option ℕ)
 moved n = map (shifted_place n) library.places
 
-count_moved : (n : ℕ) → length (moved n) ≡ 13
+count_moved : (n : ℕ) → length (moved n) ≡ routines_count
 count_moved n = length-map library.places (shifted_place n) ∙ count_library
 
 -- the places of all labels before any item has its own
@@ -173,11 +182,11 @@ count_labels ir =
     let first = count_moved (length (front ir).items) in
     ap length (library_labels ir) ∙ length-append (None ∷ moved (length (front ir).items)) (nones (marks_in ir.marks + 2)) ∙ (let e = count_nones (marks_in ir.marks + 2) in omega (arith, first, e))
 
-open_from : (ir : Ir) (k : ℕ) → k < marks_in ir.marks + 2 → IsOpen (with_library ir) (14 + k)
+open_from : (ir : Ir) (k : ℕ) → k < marks_in ir.marks + 2 → IsOpen (with_library ir) (17 + k)
 open_from ir k few =
     let first = count_moved (length (front ir).items) in
-    ap (λ ps. slice_get ps (14 + k)) (library_labels ir)
-    ∙ ap (slice_get ((None ∷ moved (length (front ir).items)) ++ nones (marks_in ir.marks + 2))) (let e : 14 + k ≡ length (None ∷ moved (length (front ir).items)) + k = omega (arith, first) in e)
+    ap (λ ps. slice_get ps (17 + k)) (library_labels ir)
+    ∙ ap (slice_get ((None ∷ moved (length (front ir).items)) ++ nones (marks_in ir.marks + 2))) (let e : 17 + k ≡ length (None ∷ moved (length (front ir).items)) + k = omega (arith, first) in e)
     ∙ get_after (None ∷ moved (length (front ir).items)) (nones (marks_in ir.marks + 2)) k ∙ get_none (marks_in ir.marks + 2) k few
 
 pub raise_open : (ir : Ir) → IsOpen (with_library ir) raise_label
@@ -199,19 +208,19 @@ begun_labels f = refl
 pub begun_count : (f : FragState) → length (with_beginning f).places ≡ length f.places
 begun_count f = ap length (begun_labels f) ∙ length_set (slice_set f.places raise_label (Some (length f.items))) main_label (Some (length (f.items ++ items raiser))) ∙ length_set f.places raise_label (Some (length f.items))
 
-pub items_open : (ir : Ir) → AreOpen 0 (with_beginning (with_library ir))
-items_open ir k from within =
-    let f = with_library ir in
-    let count = begun_count f ∙ count_labels ir in
-    let before : IsOpen f (14 + (k + 1)) = open_from ir (k + 1) (omega (arith, within, count)) in
+-- the labels of items are open where a fragment has the labels of the library's
+pub items_open : (ir : Ir) (f : FragState) → f.places ≡ (with_library ir).places → AreOpen 0 (with_beginning f)
+items_open ir f same k from within =
+    let count = begun_count f ∙ ap length same ∙ count_labels ir in
+    let before : IsOpen f (17 + (k + 1)) = ap (λ ps. slice_get ps (17 + (k + 1))) same ∙ open_from ir (k + 1) (omega (arith, within, count)) in
     ap (λ ps. slice_get ps (item_label k)) (begun_labels f)
     ∙ get_set_other (slice_set f.places raise_label (Some (length f.items))) main_label (item_label k) (Some (length (f.items ++ items raiser))) (λ e. omega (arith, e))
     ∙ get_set_other f.places raise_label (item_label k) (Some (length f.items)) (λ e. omega (arith, e))
-    ∙ ap (slice_get f.places) (let e : item_label k ≡ 14 + (k + 1) = omega arith in e) ∙ before
+    ∙ ap (slice_get f.places) (let e : item_label k ≡ 17 + (k + 1) = omega arith in e) ∙ before
 
 -- ---- the whole
 
-module _ (A B : List Item) (Q : List (Option ℕ)) (m : ℕ) (count : length Q ≡ 13) where
+module _ (A B : List Item) (Q : List (Option ℕ)) (m : ℕ) (count : length Q ≡ routines_count) where
   -- where the raising of errors and the program begin
   abbrev raise_at : Option ℕ
   raise_at = Some (length (A ++ B))
@@ -226,7 +235,7 @@ module _ (A B : List Item) (Q : List (Option ℕ)) (m : ℕ) (count : length Q �
   unfolding with_beginning
   begun_places =
       let first : nones (m + 2) ≡ None ∷ nones (m + 1) = ap nones (let e : m + 2 ≡ suc (m + 1) = omega arith in e) in
-      let label : 14 ≡ length (None ∷ Q) = omega (arith, count) in
+      let label : 17 ≡ length (None ∷ Q) = omega (arith, count) in
       ap (λ ps. slice_set ps main_label main_at) ((λ i. slice_set ((None ∷ Q) ++ first i) (label i) raise_at) ∙ set-append_seam (None ∷ Q) None (nones (m + 1)) raise_at)
       ∙ ap (λ ps. main_at ∷ ps) (sym (append_assoc Q (raise_at ∷ []) (nones (m + 1))))
 
@@ -234,7 +243,7 @@ module _ (A B : List Item) (Q : List (Option ℕ)) (m : ℕ) (count : length Q �
   unfolding with_beginning
   begun_items = refl
 
-  module _ (texts : ℕ → ℕ) (ops : List Op) (xs : List Bool) (laid : length xs ≡ length ops) (marks : marks_in xs ≡ m) where
+  module _ (texts : ℕ → ℕ) (branches : ℕ) (ops : List Op) (xs : List Bool) (laid : length xs ≡ length ops) (marks : marks_in xs ≡ m) where
     abbrev start : ℕ
     start = length (((A ++ B) ++ items raiser) ++ items prologue)
 
@@ -244,30 +253,30 @@ module _ (A B : List Item) (Q : List (Option ℕ)) (m : ℕ) (count : length Q �
     count_placed : length placed ≡ item_label 0
     count_placed = omega (arith, length-append Q (raise_at ∷ []), count)
 
-    ops-are : with_ops texts ops xs 0 (with_beginning before)
-        ≡ the_state ((((A ++ B) ++ items raiser) ++ items prologue) ++ op_items texts ops) (placed ++ (item_places texts ops xs start ++ None ∷ []))
+    ops-are : with_ops texts branches ops xs 0 (with_beginning before)
+        ≡ the_state ((((A ++ B) ++ items raiser) ++ items prologue) ++ op_items texts branches ops xs 0) (placed ++ (item_places ops xs start ++ None ∷ []))
     ops-are =
-        with_ops-is texts ops xs 0 placed (with_beginning before) count_placed (begun_places ∙ (λ i. placed ++ nones (sym marks i + 1))) laid
-        ∙ (λ i. the_state (begun_items i ++ op_items texts ops) (placed ++ (item_places texts ops xs (length (begun_items i)) ++ None ∷ [])))
+        with_ops-is texts branches ops xs 0 placed (with_beginning before) count_placed (begun_places ∙ (λ i. placed ++ nones (sym marks i + 1))) laid
+        ∙ (λ i. the_state (begun_items i ++ op_items texts branches ops xs 0) (placed ++ (item_places ops xs (length (begun_items i)) ++ None ∷ [])))
 
     -- the end after the operations
     abbrev end_at : Option ℕ
-    end_at = Some (length ((((A ++ B) ++ items raiser) ++ items prologue) ++ op_items texts ops))
+    end_at = Some (length ((((A ++ B) ++ items raiser) ++ items prologue) ++ op_items texts branches ops xs 0))
 
-    ended : with_code last_piece (with_place (item_label m) (with_ops texts ops xs 0 (with_beginning before)))
-        ≡ the_state (A ++ (B ++ (items raiser ++ (items prologue ++ (op_items texts ops ++ items last_piece))))) (main_at ∷ (Q ++ (raise_at ∷ (item_places texts ops xs start ++ end_at ∷ []))))
+    ended : with_code last_piece (with_place (item_label m) (with_ops texts branches ops xs 0 (with_beginning before)))
+        ≡ the_state (A ++ (B ++ (items raiser ++ (items prologue ++ (op_items texts branches ops xs 0 ++ items last_piece))))) (main_at ∷ (Q ++ (raise_at ∷ (item_places ops xs start ++ end_at ∷ []))))
     ended =
-        let front_places = placed ++ item_places texts ops xs start in
-        let label : item_label m ≡ length front_places = omega (arith, length-append placed (item_places texts ops xs start), count_placed, length_places texts ops xs start laid, marks) in
-        let there : slice_set (placed ++ (item_places texts ops xs start ++ None ∷ [])) (item_label m) end_at ≡ placed ++ (item_places texts ops xs start ++ end_at ∷ []) =
-        (λ i. slice_set (sym (append_assoc placed (item_places texts ops xs start) (None ∷ [])) i) (label i) end_at) ∙ set-append_seam front_places None [] end_at ∙ append_assoc placed (item_places texts ops xs start) (end_at ∷ []) in
+        let front_places = placed ++ item_places ops xs start in
+        let label : item_label m ≡ length front_places = omega (arith, length-append placed (item_places ops xs start), count_placed, length-item_places ops xs start laid, marks) in
+        let there : slice_set (placed ++ (item_places ops xs start ++ None ∷ [])) (item_label m) end_at ≡ placed ++ (item_places ops xs start ++ end_at ∷ []) =
+        (λ i. slice_set (sym (append_assoc placed (item_places ops xs start) (None ∷ [])) i) (label i) end_at) ∙ set-append_seam front_places None [] end_at ∙ append_assoc placed (item_places ops xs start) (end_at ∷ []) in
         ap (λ f. with_code last_piece (with_place (item_label m) f)) ops-are
         ∙ (λ i. the_state
-        ((append_assoc (((A ++ B) ++ items raiser) ++ items prologue) (op_items texts ops) (items last_piece)
-        ∙ append_assoc ((A ++ B) ++ items raiser) (items prologue) (op_items texts ops ++ items last_piece)
-        ∙ append_assoc (A ++ B) (items raiser) (items prologue ++ (op_items texts ops ++ items last_piece))
-        ∙ append_assoc A B (items raiser ++ (items prologue ++ (op_items texts ops ++ items last_piece)))) i)
-        ((there ∙ ap (λ ps. main_at ∷ ps) (append_assoc Q (raise_at ∷ []) (item_places texts ops xs start ++ end_at ∷ []))) i))
+        ((append_assoc (((A ++ B) ++ items raiser) ++ items prologue) (op_items texts branches ops xs 0) (items last_piece)
+        ∙ append_assoc ((A ++ B) ++ items raiser) (items prologue) (op_items texts branches ops xs 0 ++ items last_piece)
+        ∙ append_assoc (A ++ B) (items raiser) (items prologue ++ (op_items texts branches ops xs 0 ++ items last_piece))
+        ∙ append_assoc A B (items raiser ++ (items prologue ++ (op_items texts branches ops xs 0 ++ items last_piece)))) i)
+        ((there ∙ ap (λ ps. main_at ∷ ps) (append_assoc Q (raise_at ∷ []) (item_places ops xs start ++ end_at ∷ []))) i))
 
 -- the library's items where its labels come after that of the beginning
 abbrev moved_items : List Item
@@ -276,50 +285,75 @@ moved_items = map (shifted_item 1) library.items
 abbrev front_items : Ir → List Item
 front_items ir = header ++ data_items (packed (data_bytes ir))
 
-with_library-parts : (ir : Ir) → with_library ir ≡ the_state (front_items ir ++ moved_items) ((None ∷ moved (length (front_items ir))) ++ nones (marks_in ir.marks + 2))
+-- the branches to items and to the end
+abbrev branches_of : Ir → List Item
+branches_of ir = branch_items (marks_in ir.marks + 1) 0
+
+-- all that comes before the raising of errors
+abbrev first_items : Ir → List Item
+first_items ir = front_items ir ++ (moved_items ++ branches_of ir)
+
+with_branches-parts : (ir : Ir) → with_branches (marks_in ir.marks) (with_library ir) ≡ the_state (first_items ir) ((None ∷ moved (length (front_items ir))) ++ nones (marks_in ir.marks + 2))
 unfolding with_library front
-with_library-parts ir = refl
+with_branches-parts ir = λ i. the_state (append_assoc (front_items ir) moved_items (branches_of ir) i) ((None ∷ moved (length (front_items ir))) ++ nones (marks_in ir.marks + 2))
+
+pub with_branches-is : (ir : Ir) (n : ℕ) (f g : FragState) → f ≡ with_library ir → n ≡ length ir.starts → marks_in ir.marks ≡ length ir.starts → g ≡ with_branches n f → g ≡ with_branches (marks_in ir.marks) (with_library ir)
+with_branches-is ir n f g built count marked made = made ∙ (λ i. with_branches ((count ∙ sym marked) i) (built i))
 
 library_at : (ir : Ir) → length (front_items ir) ≡ library_place ir
 library_at ir = omega (arith, length-append header (data_items (packed (data_bytes ir))), length-map (packed (data_bytes ir)) (λ w. Ins (means w)))
 
-raise_is : (ir : Ir) → length (front_items ir ++ moved_items) ≡ raise_place ir
-raise_is ir = omega (arith, length-append (front_items ir) moved_items, library_at ir, length-map library.items (shifted_item 1))
+-- the branches are where their address says
+branches_at : (ir : Ir) → length (front_items ir ++ moved_items) ≡ branches_place ir
+branches_at ir = omega (arith, length-append (front_items ir) moved_items, library_at ir, length-map library.items (shifted_item 1))
 
-main_is : (ir : Ir) → length ((front_items ir ++ moved_items) ++ items raiser) ≡ main_place ir
-main_is ir = omega (arith, length-append (front_items ir ++ moved_items) (items raiser), raise_is ir, length-items raiser)
+pub branches_start-is : (ir : Ir) → image_start + 4 * length (with_library ir).items ≡ branches_start ir
+unfolding with_library front
+branches_start-is ir = ap (λ n. image_start + 4 * n) (branches_at ir)
 
-start_is : (ir : Ir) → length (((front_items ir ++ moved_items) ++ items raiser) ++ items prologue) ≡ op_place ir 0
+raise_is : (ir : Ir) → length (first_items ir) ≡ raise_place ir
+raise_is ir =
+    let all = length-append (front_items ir) (moved_items ++ branches_of ir) in
+    let both = length-append moved_items (branches_of ir) in
+    omega (arith, all, both, library_at ir, length-map library.items (shifted_item 1), length-branches (marks_in ir.marks + 1) 0)
+
+main_is : (ir : Ir) → length (first_items ir ++ items raiser) ≡ main_place ir
+main_is ir = omega (arith, length-append (first_items ir) (items raiser), raise_is ir, length-items raiser)
+
+start_is : (ir : Ir) → length ((first_items ir ++ items raiser) ++ items prologue) ≡ op_place ir 0
 start_is ir =
-    let size_is = length-append ((front_items ir ++ moved_items) ++ items raiser) (items prologue) ∙ (λ i. main_is ir i + length-items prologue i) in
+    let size_is = length-append (first_items ir ++ items raiser) (items prologue) ∙ (λ i. main_is ir i + length-items prologue i) in
     size_is ∙ (let e : main_place ir + size prologue ≡ op_place ir 0 = omega arith in e)
 
-end_is : (ir : Ir) → length ((((front_items ir ++ moved_items) ++ items raiser) ++ items prologue) ++ op_items (text_address ir) ir.ops) ≡ op_place ir (length ir.ops)
-end_is ir =
-    let all : op_items (text_address ir) ir.ops ≡ op_items (text_address ir) (take (length ir.ops) ir.ops) = ap (op_items (text_address ir)) (sym (take_all (length ir.ops) ir.ops (omega arith))) in
-    length-append (((front_items ir ++ moved_items) ++ items raiser) ++ items prologue) (op_items (text_address ir) ir.ops)
-    ∙ (λ i. (length-append ((front_items ir ++ moved_items) ++ items raiser) (items prologue) ∙ (λ j. main_is ir j + length-items prologue j)) i + length (all i))
+end_is : (ir : Ir) → length ir.marks ≡ length ir.ops → length (((first_items ir ++ items raiser) ++ items prologue) ++ all_op_items ir) ≡ op_place ir (length ir.ops)
+end_is ir laid =
+    let all = length-op_items (text_address ir) (branches_start ir) ir.ops ir.marks 0 laid ∙ sym (whole-size ir.ops) in
+    length-append ((first_items ir ++ items raiser) ++ items prologue) (all_op_items ir)
+    ∙ (λ i. (length-append (first_items ir ++ items raiser) (items prologue) ∙ (λ j. main_is ir j + length-items prologue j)) i + all i)
 
-pub program-is : (ir : Ir) → length ir.marks ≡ length ir.ops → with_program ir (with_beginning (with_library ir)) ≡ program ir
+pub program-is : (ir : Ir) → length ir.marks ≡ length ir.ops → with_program ir (with_beginning (with_branches (marks_in ir.marks) (with_library ir))) ≡ program ir
 unfolding with_program program
 program-is ir laid =
-    ap (λ f. with_code last_piece (with_place (item_label (marks_in ir.marks)) (with_ops (text_address ir) ir.ops ir.marks 0 (with_beginning f)))) (with_library-parts ir)
-    ∙ ended (front_items ir) moved_items (moved (length (front_items ir))) (marks_in ir.marks) (count_moved (length (front_items ir))) (text_address ir) ir.ops ir.marks laid refl
+    let last = items raiser ++ (items prologue ++ (all_op_items ir ++ items last_piece)) in
+    ap (λ f. with_code last_piece (with_place (item_label (marks_in ir.marks)) (with_ops (text_address ir) (branches_start ir) ir.ops ir.marks 0 (with_beginning f)))) (with_branches-parts ir)
+    ∙ ended (front_items ir) (moved_items ++ branches_of ir) (moved (length (front_items ir))) (marks_in ir.marks) (count_moved (length (front_items ir))) (text_address ir) (branches_start ir) ir.ops ir.marks laid refl
     ∙ (λ i. the_state
-    ((append_assoc header (data_items (packed (data_bytes ir))) (moved_items ++ (items raiser ++ (items prologue ++ (op_items (text_address ir) ir.ops ++ items last_piece))))) i)
-    (Some (main_is ir i) ∷ (moved (library_at ir i) ++ (Some (raise_is ir i) ∷ (item_places (text_address ir) ir.ops ir.marks (start_is ir i) ++ Some (end_is ir i) ∷ [])))))
+    ((append_assoc header (data_items (packed (data_bytes ir))) ((moved_items ++ branches_of ir) ++ last) ∙ ap (λ rest. header ++ (data_items (packed (data_bytes ir)) ++ rest)) (append_assoc moved_items (branches_of ir) last)) i)
+    (Some (main_is ir i) ∷ (moved (library_at ir i) ++ (Some (raise_is ir i) ∷ (item_places ir.ops ir.marks (start_is ir i) ++ Some (end_is ir laid i) ∷ [])))))
 
-pub with_program-is : (ir : Ir) (item label : ℕ) (f g h : FragState) → g ≡ with_ops (text_address ir) ir.ops ir.marks 0 f → item ≡ marks_in ir.marks → label ≡ item_label item → h ≡ with_place label g → with_code last_piece h ≡ with_program ir f
+pub with_program-is : (ir : Ir) (branches item label : ℕ) (f g h : FragState) → branches ≡ branches_start ir → g ≡ with_ops (text_address ir) branches ir.ops ir.marks 0 f → item ≡ marks_in ir.marks → label ≡ item_label item → h ≡ with_place label g
+    → with_code last_piece h ≡ with_program ir f
 unfolding with_program
-with_program-is ir item label f g h ops item_is label_is placed_is = ap (with_code last_piece) (placed_is ∙ (λ i. with_place ((label_is ∙ ap item_label item_is) i) (ops i)))
+with_program-is ir branches item label f g h address ops item_is label_is placed_is =
+    ap (with_code last_piece) (placed_is ∙ (λ i. with_place ((label_is ∙ ap item_label item_is) i) ((ops ∙ ap (λ a. with_ops (text_address ir) a ir.ops ir.marks 0 f) address) i)))
 
 -- ---- each label has its place
 
-items_placed : (texts : ℕ → ℕ) (ops : List Op) (xs : List Bool) (at : ℕ) → list_all is_placed (item_places texts ops xs at) ≡ true
-items_placed texts [] xs at = refl
-items_placed texts (op ∷ ops) [] at = refl
-items_placed texts (op ∷ ops) (true ∷ xs) at = items_placed texts ops xs (at + size (op_code texts op))
-items_placed texts (op ∷ ops) (false ∷ xs) at = items_placed texts ops xs (at + size (op_code texts op))
+items_placed : (ops : List Op) (xs : List Bool) (at : ℕ) → list_all is_placed (item_places ops xs at) ≡ true
+items_placed [] xs at = refl
+items_placed (op ∷ ops) [] at = refl
+items_placed (op ∷ ops) (true ∷ xs) at = items_placed ops xs (at + op_size op)
+items_placed (op ∷ ops) (false ∷ xs) at = items_placed ops xs (at + op_size op)
 
 library_placed : list_all is_placed library.places ≡ true
 unfolding library
@@ -331,6 +365,6 @@ all_both ps qs first second = list_all-append is_placed ps qs ∙ and_from (list
 pub all_placed : (ir : Ir) → AllPlaced (program ir)
 unfolding program
 all_placed ir =
-    all_both (map (shifted_place (library_place ir)) library.places) (Some (raise_place ir) ∷ (item_places (text_address ir) ir.ops ir.marks (op_place ir 0) ++ Some (op_place ir (length ir.ops)) ∷ []))
+    all_both (map (shifted_place (library_place ir)) library.places) (Some (raise_place ir) ∷ (item_places ir.ops ir.marks (op_place ir 0) ++ Some (op_place ir (length ir.ops)) ∷ []))
     (placed-shifted (library_place ir) library.places ∙ library_placed)
-    (all_both (item_places (text_address ir) ir.ops ir.marks (op_place ir 0)) (Some (op_place ir (length ir.ops)) ∷ []) (items_placed (text_address ir) ir.ops ir.marks (op_place ir 0)) refl)
+    (all_both (item_places ir.ops ir.marks (op_place ir 0)) (Some (op_place ir (length ir.ops)) ∷ []) (items_placed ir.ops ir.marks (op_place ir 0)) refl)

@@ -14,11 +14,18 @@ with_code piece f = record { items = f.items ++ items piece; places = f.places }
 abbrev pub LeadsInto : ℕ → Op → Type 0
 LeadsInto n (o.Go item) = item_label item < n
 LeadsInto n (o.GoIfZero item) = item_label item < n
+LeadsInto n (o.GoIfOne item) = item_label item < n
+LeadsInto n (o.GosubIfOne item line) = item_label item < n
+LeadsInto n (o.Gosub item line) = item_label item < n
 LeadsInto n _ = Unit {0}
 
--- the code of an operation that pushes no string
+-- the code of an operation where the string that it pushes has an address, and the branch to the next item another
+abbrev pub code_with : ℕ → ℕ → Op → Piece
+code_with text back op = op_code (record { text = (λ number. text); back = back }) op
+
+-- the code of one that pushes no string and opens nothing
 abbrev pub code_of : Op → Piece
-code_of op = op_code (λ number. 0) op
+code_of op = code_with 0 0 op
 
 -- the word of four bytes from a place on, the lowest one first, where bytes past the end are 0
 abbrev pub word_from : List ℕ → ℕ → ℕ

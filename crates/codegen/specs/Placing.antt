@@ -10,7 +10,7 @@ use Rattle.code_frag.specs.Words.{FragState, IsOpen, joined}
 use Rattle.runtime_lib.specs.Entries.{error_table}
 use Rattle.runtime_lib.specs.Library.{library}
 use Rattle.codegen.specs.Operations.{main_label, raise_label, item_label, op_code}
-use Rattle.codegen.specs.Program.{text_bytes, data_bytes, packed, data_items, header, prologue, raiser, last_piece, text_address}
+use Rattle.codegen.specs.Program.{text_bytes, data_bytes, packed, data_items, header, prologue, raiser, last_piece, branch_items, item_after, named, text_address, branches_start}
 use Rattle.codegen.specs.Emission.{with_code}
 
 -- ---- addresses of texts
@@ -52,22 +52,17 @@ abbrev pub with_place_if : Bool → ℕ → FragState → FragState
 with_place_if true item f = with_place (item_label item) f
 with_place_if false item f = f
 
--- the item that begins next
-abbrev pub item_after : Bool → ℕ → ℕ
-item_after true item = item + 1
-item_after false item = item
-
 -- ---- operations
 
--- a fragment with an operation's code at its end
-abbrev pub with_op : (ℕ → ℕ) → Op → Bool → ℕ → FragState → FragState
-with_op texts op marked item f = with_code (op_code texts op) (with_place_if marked item f)
+-- a fragment with an operation's code at its end, which may name the branch to the next item
+abbrev pub with_op : (ℕ → ℕ) → ℕ → Op → Bool → ℕ → FragState → FragState
+with_op texts branches op marked item f = with_code (op_code (named texts branches (item_after marked item)) op) (with_place_if marked item f)
 
 -- a fragment with the code of operations and their marks, where an item is the next one
-abbrev pub with_ops : (ℕ → ℕ) → List Op → List Bool → ℕ → FragState → FragState
-with_ops texts [] marks item f = f
-with_ops texts (op ∷ ops) [] item f = f
-with_ops texts (op ∷ ops) (marked ∷ marks) item f = with_ops texts ops marks (item_after marked item) (with_op texts op marked item f)
+abbrev pub with_ops : (ℕ → ℕ) → ℕ → List Op → List Bool → ℕ → FragState → FragState
+with_ops texts branches [] marks item f = f
+with_ops texts branches (op ∷ ops) [] item f = f
+with_ops texts branches (op ∷ ops) (marked ∷ marks) item f = with_ops texts branches ops marks (item_after marked item) (with_op texts branches op marked item f)
 
 -- ---- the whole
 
@@ -79,13 +74,17 @@ front ir = record { items = header ++ data_items (packed (data_bytes ir)); place
 unfoldable pub with_library : Ir → FragState
 with_library ir = with_labels (marks_in ir.marks + 2) (joined (front ir) library)
 
+-- the branches to n items and to the end
+abbrev pub with_branches : ℕ → FragState → FragState
+with_branches n f = record { items = f.items ++ branch_items (n + 1) 0; places = f.places }
+
 -- the raising of errors, and the beginning of the program
 unfoldable pub with_beginning : FragState → FragState
 with_beginning f = with_code prologue (with_place main_label (with_code raiser (with_place raise_label f)))
 
 -- the operations, and the end after them
 unfoldable pub with_program : Ir → FragState → FragState
-with_program ir f = with_code last_piece (with_place (item_label (marks_in ir.marks)) (with_ops (text_address ir) ir.ops ir.marks 0 f))
+with_program ir f = with_code last_piece (with_place (item_label (marks_in ir.marks)) (with_ops (text_address ir) (branches_start ir) ir.ops ir.marks 0 f))
 
 -- ---- what a label needs
 

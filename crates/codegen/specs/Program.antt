@@ -1,7 +1,10 @@
--- The whole code of a program as a fragment: the texts, the library, and the operations one after another. This project's own.
-use Rattle.std.specs.Prelude.{ℕ, ◌+◌, ◌*◌, ◌/◌, ◌^◌, Bool, true, false, List, [], ◌∷◌, ◌++◌, length, map, flat_map, take, Option, Some}
+-- The whole code of a program as a fragment: the texts, the library, a branch to each item, and the operations one after another.
+-- This project's own.
+use Rattle.std.specs.Prelude.{ℕ, zero, suc, ◌+◌, ◌*◌, ◌/◌, ◌^◌, Bool, true, false, List, [], ◌∷◌, ◌++◌, length, map, flat_map, take, Option, Some}
 use Rattle.bas_ir.specs.declared.ir.Ir.{Ir}
 use Rattle.bas_ir.specs.declared.op.Op.{Op}
+use Rattle.bas_ir.specs.Places.{marks_in, item_from}
+use Rattle.bv_base.specs.MemoryMap.{image_start}
 use Rattle.arm_isa.specs.Numbers.{AL}
 use Rattle.arm_isa.specs.Words.{means}
 use Rattle.code_frag.specs.declared.item.Item.{Item}
@@ -13,7 +16,7 @@ use Rattle.code_frag.specs.Regions.{error_texts_start, residents_start, numbers_
 use Rattle.code_frag.specs.Words.{FragState, shifted_item, shifted_place}
 use Rattle.runtime_lib.specs.Entries.{ClosingText, error_table}
 use Rattle.runtime_lib.specs.Library.{library}
-use Rattle.codegen.specs.Operations.{main_label, library_label, load, op_code}
+use Rattle.codegen.specs.Operations.{main_label, library_label, item_label, Named, load, op_code}
 
 -- ---- texts
 
@@ -60,9 +63,35 @@ raiser = Call (library_label ClosingText) ⨾ Skip
 abbrev pub last_piece : language.Piece
 last_piece = mov 0 (num 0) ⨾ Halt ⨾ Skip
 
--- the items of operations, one after another
-abbrev pub op_items : (ℕ → ℕ) → List Op → List Item
-op_items texts ops = flat_map (λ op. items (op_code texts op)) ops
+-- the branches to n items, from one on
+abbrev pub branch_items : ℕ → ℕ → List Item
+branch_items zero item = []
+branch_items (suc n) item = Jump AL false (record { number = item_label item }) ∷ branch_items n (item + 1)
+
+-- the item that begins next after an operation
+abbrev pub item_after : Bool → ℕ → ℕ
+item_after true item = item + 1
+item_after false item = item
+
+-- what the code of an operation names, where an item is the next one
+abbrev pub named : (ℕ → ℕ) → ℕ → ℕ → Named
+named texts branches item = record { text = texts; back = branches + 4 * item }
+
+-- the items of operations with their marks, one after another, where an item is the next one before them
+abbrev pub op_items : (ℕ → ℕ) → ℕ → List Op → List Bool → ℕ → List Item
+op_items texts branches [] marks item = []
+op_items texts branches (op ∷ ops) [] item = []
+op_items texts branches (op ∷ ops) (marked ∷ marks) item =
+    items (op_code (named texts branches (item_after marked item)) op) ++ op_items texts branches ops marks (item_after marked item)
+
+-- how many words an operation has, whatever it names
+abbrev pub op_size : Op → ℕ
+op_size op = size (op_code (named (λ number. 0) 0 0) op)
+
+-- and several
+abbrev pub ops_size : List Op → ℕ
+ops_size [] = 0
+ops_size (op ∷ ops) = op_size op + ops_size ops
 
 -- ---- where they are, in items from the front
 
@@ -70,9 +99,17 @@ op_items texts ops = flat_map (λ op. items (op_code texts op)) ops
 abbrev pub library_place : Ir → ℕ
 library_place ir = 3 + length (packed (data_bytes ir))
 
--- the raising of errors, after the library
+-- the branches to items and to the end, after the library
+abbrev pub branches_place : Ir → ℕ
+branches_place ir = library_place ir + length library.items
+
+-- the address of the first of them
+abbrev pub branches_start : Ir → ℕ
+branches_start ir = image_start + 4 * branches_place ir
+
+-- the raising of errors, after them
 abbrev pub raise_place : Ir → ℕ
-raise_place ir = library_place ir + length library.items
+raise_place ir = branches_place ir + (marks_in ir.marks + 1)
 
 -- where the program begins
 abbrev pub main_place : Ir → ℕ
@@ -80,24 +117,33 @@ main_place ir = raise_place ir + size raiser
 
 -- the operation at a place
 abbrev pub op_place : Ir → ℕ → ℕ
-op_place ir pc = main_place ir + size prologue + length (op_items (text_address ir) (take pc ir.ops))
+op_place ir pc = main_place ir + size prologue + ops_size (take pc ir.ops)
+
+-- what the code of the operation at a place names
+abbrev pub named_at : Ir → ℕ → Named
+named_at ir pc = named (text_address ir) (branches_start ir) (item_from ir (suc pc))
 
 -- the places of the marked operations, where the first of a list is at a place
-abbrev pub item_places : (ℕ → ℕ) → List Op → List Bool → ℕ → List (Option ℕ)
-item_places texts [] marks at = []
-item_places texts (op ∷ ops) [] at = []
-item_places texts (op ∷ ops) (true ∷ marks) at = Some at ∷ item_places texts ops marks (at + size (op_code texts op))
-item_places texts (op ∷ ops) (false ∷ marks) at = item_places texts ops marks (at + size (op_code texts op))
+abbrev pub item_places : List Op → List Bool → ℕ → List (Option ℕ)
+item_places [] marks at = []
+item_places (op ∷ ops) [] at = []
+item_places (op ∷ ops) (true ∷ marks) at = Some at ∷ item_places ops marks (at + op_size op)
+item_places (op ∷ ops) (false ∷ marks) at = item_places ops marks (at + op_size op)
+
+-- the items of all operations
+abbrev pub all_op_items : Ir → List Item
+all_op_items ir = op_items (text_address ir) (branches_start ir) ir.ops ir.marks 0
 
 -- The whole code of a program. Its labels are that of its beginning, those of the library, that of the raising of errors, and one for
 -- each item and for the end. It stays closed, so that no goal shows its items.
 unfoldable pub program : Ir → FragState
 program ir = record {
   items =
-      header ++ (data_items (packed (data_bytes ir)) ++ (map (shifted_item 1) library.items ++ (items raiser ++ (items prologue ++ (op_items (text_address ir) ir.ops ++ items last_piece)))));
+      header ++ (data_items (packed (data_bytes ir)) ++ (map (shifted_item 1) library.items ++ (branch_items (marks_in ir.marks + 1) 0
+      ++ (items raiser ++ (items prologue ++ (all_op_items ir ++ items last_piece))))));
   places =
       Some (main_place ir) ∷ (map (shifted_place (library_place ir)) library.places
-      ++ (Some (raise_place ir) ∷ (item_places (text_address ir) ir.ops ir.marks (op_place ir 0) ++ Some (op_place ir (length ir.ops)) ∷ [])));
+      ++ (Some (raise_place ir) ∷ (item_places ir.ops ir.marks (op_place ir 0) ++ Some (op_place ir (length ir.ops)) ∷ [])));
 }
 
 -- what an image has beside the code of operations and the program's texts, at most, in bytes: the library, the texts of errors, and

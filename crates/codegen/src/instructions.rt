@@ -114,6 +114,13 @@ macro_rules! pull {
     };
 }
 
+/// To the address in a register.
+macro_rules! leave_to {
+    ($rm:expr) => {
+        data!(AL, MOV, false, R15, 0, reg $rm)
+    };
+}
+
 /// A call of the board.
 macro_rules! swi {
     ($number:expr) => {
@@ -138,6 +145,7 @@ macro_rules! over {
 pub(crate) use cmp;
 pub(crate) use data;
 pub(crate) use ldr;
+pub(crate) use leave_to;
 pub(crate) use mov;
 pub(crate) use over;
 pub(crate) use pull;

@@ -38,11 +38,20 @@ pub const TO_FIELD: Label = Label { number: 10 };
 /// TAB.
 pub const TO_TAB: Label = Label { number: 11 };
 
+/// An open loop or GOSUB more.
+pub const OPENING: Label = Label { number: 14 };
+
+/// UNTIL, ENDWHILE and RETURN.
+pub const CLOSING_WORD: Label = Label { number: 15 };
+
+/// NEXT.
+pub const TURNING: Label = Label { number: 16 };
+
 /// Where an error is raised, with its number in R0 and its line in R1.
-pub const RAISE: Label = Label { number: 14 };
+pub const RAISE: Label = Label { number: 17 };
 
 /// The first item.
-const FIRST_ITEM: u32 = 15;
+const FIRST_ITEM: u32 = 18;
 
 /// The label of an item.
 pub fn item_label(item: u32) -> Label

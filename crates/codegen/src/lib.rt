@@ -6,6 +6,7 @@ mod image_texts;
 mod instructions;
 mod labels;
 mod loads;
+mod loops;
 mod operations;
 mod operators;
 mod placing;

@@ -2,9 +2,9 @@
 ghost use Rattle.std.specs.Prelude.{◌≡◌, ℕ, ◌<◌, ◌≤◌, ◌*◌, ◌^◌, length, OnOk};
 ghost use Rattle.bas_ir.specs.declared.op.Op.TheVariants as o;
 ghost use Rattle.code_frag.specs.Language.{Skip, Call, ◌⨾◌};
-ghost use Rattle.codegen.specs.Emission.{with_code, LeadsInto, code_of};
+ghost use Rattle.codegen.specs.Emission.{with_code, LeadsInto, code_of, code_with};
 ghost use Rattle.codegen.specs.Program.{last_piece};
-ghost use Rattle.codegen.specs.Operations.{raise_label, library_label, item_label, number_routine, drop, op_code};
+ghost use Rattle.codegen.specs.Operations.{raise_label, library_label, item_label, number_routine, drop};
 
 use crate::instructions::{
     cmp, data, emit_process, emit_transfer, ldr, mov, over, pull, push, single, store, swi,
@@ -13,6 +13,10 @@ use crate::labels::{
     DECIMAL_NUMBER, HEXADECIMAL_NUMBER, SOME_SPACES, STRING_OUT, TO_FIELD, TO_TAB, item_label,
 };
 use crate::loads::{cell_place, emit_find_cell, emit_load, emit_number, emit_raise};
+use crate::loops::{
+    REPEAT, WHILE, emit_end_while, emit_go_if_one, emit_gosub, emit_gosub_if_one, emit_next,
+    emit_next_any, emit_open, emit_open_for, emit_raise_if_one, emit_return, emit_until,
+};
 use crate::operators::{emit_binary, emit_unary};
 use crate::registers::{BASE, COLUMN, NUMBERS, TEXT, TEXTS};
 use arm_isa::Instr;
@@ -57,7 +61,7 @@ fn emit_push_integer(frag: &mut Frag, name: u16, line: u16) -> Result<(), NoMemo
 
 /// Adds the pushing of the string at an address. The only error is want of memory.
 fn emit_push_text(frag: &mut Frag, number: u32, address: u32) -> Result<(), NoMemory>
-    ensures { OnOk result (frag.new ≡ with_code (op_code (λ n. address) (o.PushText number)) frag.old) }
+    ensures { OnOk result (frag.new ≡ with_code (code_with address 0 (o.PushText number)) frag.old) }
 {
     frag.emit_all(&[push!(TEXT, TEXTS)])?;
     emit_load(frag, TEXT, address)
@@ -228,13 +232,14 @@ pub fn emit_end(frag: &mut Frag) -> Result<(), NoMemory>
     frag.emit_all(&END)
 }
 
-/// Adds the code of an operation. The address is that of the string that it pushes, if it pushes one. An operation whose form has
-/// no code yet ends the run. The only error is want of memory.
-pub fn emit_op(frag: &mut Frag, op: Op, text_address: u32) -> Result<(), NoMemory>
+/// Adds the code of an operation. The addresses are those of the string that it pushes, if it pushes one, and of the branch to the
+/// item that an entry goes on at, if it opens one. An operation whose form has no code yet ends the run. The only error is want of
+/// memory.
+pub fn emit_op(frag: &mut Frag, op: Op, text_address: u32, back: u32) -> Result<(), NoMemory>
     requires raise { raise_label < length frag.old.places }
     requires leads { LeadsInto (length frag.old.places) op }
     requires few { length frag.old.places ≤ 2 ^ 32 }
-    ensures { OnOk result (frag.new ≡ with_code (op_code (λ number. text_address) op) frag.old) }
+    ensures { OnOk result (frag.new ≡ with_code (code_with text_address back op) frag.old) }
 {
     match op {
         Op::Push(value) => emit_push(frag, value),
@@ -252,6 +257,19 @@ pub fn emit_op(frag: &mut Frag, op: Op, text_address: u32) -> Result<(), NoMemor
         Op::WriteMark(mark) => emit_write_mark(frag, mark),
         Op::Go(item) => frag.branch(AL, false, item_label(item)),
         Op::GoIfZero(item) => emit_go_if_zero(frag, item),
+        Op::Discard => frag.emit_all(&[pull!(0, NUMBERS)]),
+        Op::GoIfOne(item) => emit_go_if_one(frag, item),
+        Op::GosubIfOne { item, line } => emit_gosub_if_one(frag, item, back, line),
+        Op::RaiseIfOne { error, line } => emit_raise_if_one(frag, error, line),
+        Op::OpenFor { counter, line } => emit_open_for(frag, counter, back, line),
+        Op::OpenRepeat { line } => emit_open(frag, REPEAT, back, line),
+        Op::OpenWhile { line } => emit_open(frag, WHILE, back, line),
+        Op::Gosub { item, line } => emit_gosub(frag, item, back, line),
+        Op::Next { counter, line } => emit_next(frag, counter, line),
+        Op::NextAny { line } => emit_next_any(frag, line),
+        Op::Until { line } => emit_until(frag, line),
+        Op::EndWhile { line } => emit_end_while(frag, line),
+        Op::Return { line } => emit_return(frag, line),
         Op::Raise { error, line } => emit_raise(frag, error, line),
         Op::End
         | Op::Enter { .. }

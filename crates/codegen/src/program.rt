@@ -1,4 +1,4 @@
-//! The code of a whole program: an image's first words, the texts, the library, and the operations.
+//! The code of a whole program: an image's first words, the texts, the library, the branches to items, and the operations.
 ghost use Rattle.std.specs.Prelude.{◌≡◌, ◌+◌, ◌<◌, ◌^◌, ◌++◌, IfOk, OnOk, length};
 ghost use Rattle.bas_ir.specs.Places.{marks_in};
 ghost use Rattle.bas_ir.specs.WellFormed.{IsLaidOut};
@@ -7,14 +7,14 @@ ghost use Rattle.codegen.specs.Agrees.{AreBytes};
 ghost use Rattle.codegen.specs.Emission.{with_code};
 ghost use Rattle.codegen.specs.Operations.{main_label, raise_label, item_label};
 ghost use Rattle.codegen.specs.Placing.{front, with_library, with_beginning, with_program, AreOpen, addresses};
-ghost use Rattle.codegen.specs.Program.{header, prologue, program, data_bytes};
+ghost use Rattle.codegen.specs.Program.{header, prologue, program, data_bytes, branches_start};
 
 use crate::image_texts::{data_bytes, emit_bytes, text_addresses};
 use crate::instructions::emit_process;
 use crate::labels::{CLOSING_TEXT, MAIN, RAISE, item_label};
 use crate::loads::{THIRD_BYTE, emit_load};
 use crate::operations::emit_end;
-use crate::placing::{add_labels, emit_ops};
+use crate::placing::{add_labels, emit_branches, emit_ops};
 use crate::registers::{BASE, NUMBERS, NUMBERS_END, RESIDENTS, STACK, STACK_END, TEXTS, TEXTS_END};
 use arm_isa::numbers::{AL, MOV};
 use bas_ir::Ir;
@@ -90,29 +90,33 @@ fn emit_beginning(frag: &mut Frag) -> Result<(), NoMemory>
     emit_prologue(frag)
 }
 
-/// Adds the operations and the end after them, by the table of the texts' addresses. The only error is want of memory.
-fn emit_program(frag: &mut Frag, ir: &Ir, table: &[u32]) -> Result<(), NoMemory>
+/// Adds the operations and the end after them, by the table of the texts' addresses and the address of the branches to items. The
+/// only error is want of memory.
+fn emit_program(frag: &mut Frag, ir: &Ir, table: &[u32], branches: u32) -> Result<(), NoMemory>
     requires laid_out { IsLaidOut ir.now }
     requires open { AreOpen 0 frag.old }
     requires labels { length frag.old.places ≡ item_label (marks_in ir.now.marks) + 1 }
     requires few { length frag.old.places < 2 ^ 32 }
     requires addresses { table.now ≡ addresses ir.now }
+    requires branches { branches ≡ branches_start ir.now }
     ensures { OnOk result (frag.new ≡ with_program ir.now frag.old) }
 {
-    let items = emit_ops(frag, ir, table)?;
+    let items = emit_ops(frag, ir, table, branches)?;
     frag.place(item_label(items));
     emit_end(frag)
 }
 
 /// The code of a program. The only error is want of memory.
 pub fn program_frag(alloc: Global, ir: &Ir) -> Result<Frag, NoMemory>
-    requires { IsLaidOut ir.now }
+    requires laid_out { IsLaidOut ir.now }
+    requires items { marks_in ir.now.marks ≡ length ir.now.starts }
     ensures built { IfOk result (λ frag. frag ≡ program ir.now) }
     ensures bytes { IfOk result (λ frag. AreBytes (data_bytes ir.now)) }
 {
     let mut frag = with_library(alloc, ir)?;
+    let branches = emit_branches(&mut frag, ir.starts.len() as u32)?;
     emit_beginning(&mut frag)?;
     let table = text_addresses(alloc, ir)?;
-    emit_program(&mut frag, ir, table.as_slice())?;
+    emit_program(&mut frag, ir, table.as_slice(), branches)?;
     Ok(frag)
 }

@@ -22,6 +22,9 @@ pub const RESIDENTS: u32 = 0x90_0000;
 /// Where the column stands, from the residents on, in bytes.
 pub const COLUMN: u16 = 0x6c;
 
+/// Where the number of open loops and GOSUBs stands, from the residents on, in bytes.
+pub const OPENED_COUNT: u16 = 0x70;
+
 /// Where the cells of names stand, from the residents on, in bytes; and the bytes of a cell.
 pub const CELLS: u32 = 0x100;
 

@@ -15,7 +15,7 @@ resolve-requires-clause-placed c = subst AllPlaced (sym c.in_ok-frag.ensures.bui
 pub resolve-requires-clause-few : goal.resolve-requires-clause-few
 resolve-requires-clause-few c =
     let many = ap (λ (f : FragState). length f.items) c.in_ok-frag.ensures.built in
-    let bound = program-bound c.args.ir.now in
+    let bound = program-bound c.args.ir.now c.requires.well_formed.laid_out.marks c.requires.in_items.marked in
     let short = c.requires.well_formed.short in
     let size = c.requires.size in
     omega (arith, many, bound, short, size)
@@ -29,7 +29,7 @@ returns-clause-agrees c =
 pub returns-clause-are_words : goal.returns-clause-are_words
 returns-clause-are_words c =
     let many = ap (λ (f : FragState). length f.items) c.in_ok-frag.ensures.built in
-    let bound = program-bound c.args.ir.now in
+    let bound = program-bound c.args.ir.now c.requires.well_formed.laid_out.marks c.requires.in_items.marked in
     let short = c.requires.well_formed.short in
     let size = c.requires.size in
     let frag = subst IsFrag c.frag.view_is c.frag.invariant in
@@ -38,7 +38,7 @@ returns-clause-are_words c =
 pub returns-clause-short : goal.returns-clause-short
 returns-clause-short c =
     let many = ap (λ (f : FragState). length f.items) c.in_ok-frag.ensures.built in
-    let bound = program-bound c.args.ir.now in
+    let bound = program-bound c.args.ir.now c.requires.well_formed.laid_out.marks c.requires.in_items.marked in
     let short = c.requires.well_formed.short in
     let count = length-words_of c.in_ok-frag.frag in
     IfOk-weaker c.resolve.result _ _ (λ words is. omega (arith, ap length is, count, many, bound, short)) c.resolve.ensures.words
@@ -46,7 +46,7 @@ returns-clause-short c =
 pub returns-clause-few : goal.returns-clause-few
 returns-clause-few c =
     let many = ap (λ (f : FragState). length f.items) c.in_ok-frag.ensures.built in
-    let bound = program-bound c.args.ir.now in
+    let bound = program-bound c.args.ir.now c.requires.well_formed.laid_out.marks c.requires.in_items.marked in
     let short = c.requires.well_formed.short in
     let count = length-words_of c.in_ok-frag.frag in
     let size = c.requires.size in

@@ -8,5 +8,5 @@ emit_ops-requires-clause-leads c = leads c.args.ir.now c.requires.laid_out (leng
 pub returns : goal.returns
 returns c =
     subst (λ f. OnOk c.emit_end.result (c.emit_end.new.frag ≡ f))
-    (with_program-is c.args.ir.now c.in_ok-items.items c.item_label.result.number c.args.frag.now c.emit_ops.new.frag c.place.new.self c.in_ok-items.ensures.code c.in_ok-items.ensures.items c.item_label.ensures c.place.ensures)
+    (with_program-is c.args.ir.now c.args.branches c.in_ok-items.items c.item_label.result.number c.args.frag.now c.emit_ops.new.frag c.place.new.self c.requires.branches c.in_ok-items.ensures.code c.in_ok-items.ensures.items c.item_label.ensures c.place.ensures)
     c.emit_end.ensures
