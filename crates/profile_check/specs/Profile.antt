@@ -1,5 +1,5 @@
 -- Which forms of the language have a meaning yet. A line with another form is outside. Later work only widens this.
-use Rattle.std.specs.Prelude.{Bool, true, false, ◌&&◌}
+use Rattle.std.specs.Prelude.{Bool, true, false, ◌&&◌, Option, None, Some}
 use Rattle.std.specs.List.{list_all}
 use Rattle.bas_ast.specs.declared.expressions.NumExpr.{NumExpr, more_of-NumExpr as held}
 use Rattle.bas_ast.specs.declared.expressions.NumExpr.TheVariants as num
@@ -57,13 +57,24 @@ assignment_in_profile (assigns.Add t x) = target_in_profile t && num_in_profile 
 assignment_in_profile (assigns.Subtract t x) = target_in_profile t && num_in_profile x
 assignment_in_profile _ = false
 
--- GOTO, END, STOP and QUIT
+-- the step of FOR, if it has one
+abbrev pub step_in_profile : Option NumExpr → Bool
+step_in_profile None = true
+step_in_profile (Some x) = num_in_profile x
+
+-- all that say where the run goes on
 abbrev pub flow_in_profile : Flow → Bool
 flow_in_profile (flow.Goto line) = true
+flow_in_profile (flow.Gosub line) = true
+flow_in_profile flow.Return = true
+flow_in_profile (flow.For variable start limit step) = num_in_profile start && num_in_profile limit && step_in_profile step
+flow_in_profile (flow.Next variables) = true
+flow_in_profile (flow.Until x) = num_in_profile x
+flow_in_profile (flow.While x) = num_in_profile x
+flow_in_profile flow.EndWhile = true
 flow_in_profile flow.End = true
 flow_in_profile flow.Stop = true
 flow_in_profile flow.Quit = true
-flow_in_profile _ = false
 
 abbrev pub print_part_in_profile : PrintPart → Bool
 print_part_in_profile prints.Comma = true
@@ -92,10 +103,12 @@ stmt_in_profile (stmt.Flow f) = flow_in_profile f
 stmt_in_profile (stmt.Output o) = output_in_profile o
 stmt_in_profile _ = false
 
--- plain statements, IF that is no block, ELSE within a line, and REM
+-- plain statements, IF that is no block, ELSE within a line, ON with lines, REPEAT, and REM
 abbrev pub in_profile : Item → Bool
 in_profile (item.Stmt s) = stmt_in_profile s
 in_profile (item.If x) = num_in_profile x
 in_profile item.Else = true
+in_profile (item.On x jump lines) = num_in_profile x
+in_profile item.Repeat = true
 in_profile item.Remark = true
 in_profile _ = false

@@ -54,10 +54,26 @@ fn assignment_in_profile(assignment: &Assignment) -> bool
     }
 }
 
+fn step_in_profile(step: &Option<NumExpr>) -> bool
+    ensures { result ≡ spec.step_in_profile step.now }
+{
+    match step {
+        None => true,
+        Some(x) => num_in_profile(x),
+    }
+}
+
 fn flow_in_profile(flow: &Flow) -> bool
     ensures { result ≡ spec.flow_in_profile flow.now }
 {
-    matches!(flow, Flow::Goto(_) | Flow::End | Flow::Stop | Flow::Quit)
+    match flow {
+        Flow::For(_, start, limit, step) => {
+            num_in_profile(start) && num_in_profile(limit) && step_in_profile(step)
+        }
+        Flow::Until(x) | Flow::While(x) => num_in_profile(x),
+        Flow::Goto(_) | Flow::Gosub(_) | Flow::Return | Flow::Next(_) | Flow::EndWhile => true,
+        Flow::End | Flow::Stop | Flow::Quit => true,
+    }
 }
 
 fn print_part_in_profile(part: &PrintPart) -> bool
@@ -127,8 +143,8 @@ fn item_in_profile(item: &Item) -> bool
 {
     match item {
         Item::Stmt(stmt) => stmt_in_profile(stmt),
-        Item::If(x) => num_in_profile(x),
-        Item::Else | Item::Remark => true,
+        Item::If(x) | Item::On(x, _, _) => num_in_profile(x),
+        Item::Else | Item::Repeat | Item::Remark => true,
         _ => false,
     }
 }
