@@ -2,11 +2,15 @@
 use Rattle.std.proofs.Common.{ℕ, ◌+◌, ◌-◌, List, [], ◌∷◌, Option, None, Some}
 use Rattle.std.specs.Prelude.{ℤ, pos, Bool, true, false}
 use Rattle.std.specs.Ordering.{int_eq}
+use Rattle.bas_ast.specs.declared.expressions.Any.{Any}
+use Rattle.bas_ast.specs.declared.expressions.Any.TheVariants as any
 use Rattle.bas_ast.specs.declared.expressions.NumExpr.{NumExpr, more_of-NumExpr as held}
 use Rattle.bas_ast.specs.declared.expressions.NumExpr.TheVariants as num
 use Rattle.bas_ast.specs.declared.expressions.StrExpr.{StrExpr}
 use Rattle.bas_ast.specs.declared.expressions.StrExpr.TheVariants as str
 use Rattle.bas_ast.specs.declared.expressions.Variable.TheVariants as var
+use Rattle.bas_ast.specs.declared.lines.Head.{Head}
+use Rattle.bas_ast.specs.declared.lines.Head.TheVariants as head
 use Rattle.bas_ast.specs.declared.lines.Item.{Item}
 use Rattle.bas_ast.specs.declared.lines.Item.TheVariants as item
 use Rattle.bas_ast.specs.declared.lines.Jump.{Jump}
@@ -25,6 +29,9 @@ use Rattle.bas_ast.specs.declared.statements.Stmt.TheVariants as stmt
 use Rattle.bas_ast.specs.declared.statements.VduPart.{VduPart}
 use Rattle.bas_ast.specs.declared.statements.VduPart.TheVariants as sends
 use Rattle.bas_ast.specs.declared.targets.NumTarget.TheVariants as target
+use Rattle.bas_ast.specs.declared.targets.Target.{Target}
+use Rattle.bas_ast.specs.declared.targets.Target.TheVariants as targets
+use Rattle.bas_ast.specs.Structures.{OpensCase}
 use Rattle.bas_store.specs.Cells.{Value as Content, Cell, integer_cell}
 use Rattle.bas_store.specs.Opened.{AnyNext, NextOf, EndWhile, Return}
 use Rattle.bas_store.specs.Stored.{For, Repeat, While, Gosub}
@@ -35,9 +42,12 @@ use Rattle.bas_sem.specs.Course.{Action, ◌>>=◌, ◌>>◌}
 use Rattle.bas_sem.specs.Actions.{outside, read, assign, write, or_raise}
 use Rattle.bv_num.specs.Operation.{Operation, operation, Add, Subtract}
 use Rattle.bas_sem.specs.Calls.{Calls, Kind, Level, Body, Next, GoOn}
+use Rattle.bas_sem.specs.Data.{data_texts, restored}
 use Rattle.bas_sem.specs.Evaluate.{evaluate, evaluate_text}
+use Rattle.bas_sem.specs.Places.{Branch, after_end, branches_of}
 use Rattle.bas_sem.specs.Operators.{of_one, of_two}
-use Rattle.bas_sem.specs.Items.{assignment, go_to, gosub_to, back_or, nexts, next_of, step_of, while_if, goes, chosen, on_line, out_of_range, on_chosen, finish, print, vdu, output, statement, execute_item}
+use Rattle.bas_sem.specs.Items.{assignment, go_to, gosub_to, back_or, nexts, next_of, step_of, while_if, goes, chosen, on_line, out_of_range, on_chosen, finish, print, vdu, output, reads, statement, go_or, among_values, among_branches, case_of, met, execute_item}
+use Rattle.bas_sem.proofs.DataPairs.{next_number_pair, restore_pair}
 use Rattle.bas_sem.proofs.LoopPairs.{opens_pair, closing_pair, until_pair, next_pair}
 use Rattle.bas_sem.proofs.Longer.{Pair, bind_pair, then_pair, give_pair, over_pair, write_pair, column_pair, change_pair, read_pair, or_raise_pair, raise_pair}
 
@@ -178,13 +188,53 @@ module _ (prog : Prog) (d f g : ℕ) (calls calls' : Calls) (same : CallsPair d 
   on_chosen_pair level place line jump None = out_of_range_pair line _
   on_chosen_pair level place line jump (Some number) = on_line_pair level place line jump number
 
+  reads_pair : (line : ℕ) (variables : List Target) → Pair d f g (reads prog line variables) (reads prog line variables)
+  reads_pair line [] = give_pair d f g tt
+  reads_pair line (targets.Number (target.Variable (var.Simple name)) ∷ others) =
+      bind_pair d f g _ _ _ _ (next_number_pair d f g (data_texts prog) line) (λ value. then_pair d f g _ _ _ _ (change_pair d f g _) (reads_pair line others))
+  reads_pair line (_ ∷ others) = outside_pair (Unit {0})
+
   statement_pair : (level : Level) (place line : ℕ) (s : Stmt) → Pair d f g (statement prog calls level place line s) (statement prog calls' level place line s)
   statement_pair level place line (stmt.Assign a) = then_pair d f g _ _ _ _ (assignment_pair line a) (give_pair d f g (GoOn (place + 1)))
   statement_pair level place line (stmt.Flow w) = goes_pair level place line w
   statement_pair level place line (stmt.Output o) = then_pair d f g _ _ _ _ (output_pair line o) (give_pair d f g (GoOn (place + 1)))
+  statement_pair level place line (stmt.Read variables) = then_pair d f g _ _ _ _ (reads_pair line variables) (give_pair d f g (GoOn (place + 1)))
+  statement_pair level place line (stmt.Restore to) = then_pair d f g _ _ _ _ (restore_pair d f g (restored prog to) line) (give_pair d f g (GoOn (place + 1)))
   statement_pair level place line _ = outside_pair Next
 
+  go_or_pair : (here : Bool) (place : ℕ) (rest rest' : Action Next) → Pair d f g rest rest' → Pair d f g (go_or here place rest) (go_or here place rest')
+  go_or_pair true place rest rest' same = give_pair d f g (GoOn place)
+  go_or_pair false place rest rest' same = same
+
+  among_values_pair : (value : ℤ) (line after : ℕ) (xs : List Any) (later later' : Action Next) → Pair d f g later later'
+      → Pair d f g (among_values prog calls value line after xs later) (among_values prog calls' value line after xs later')
+  among_values_pair value line after [] later later' same = same
+  among_values_pair value line after (any.Number x ∷ xs) later later' same =
+      bind_pair d f g _ _ _ _ (evaluate_pair line x) (λ v. go_or_pair (int_eq v value) after _ _ (among_values_pair value line after xs later later' same))
+  among_values_pair value line after (any.Text x ∷ xs) later later' same = outside_pair Next
+
+  among_branches_pair : (value : ℤ) (last : ℕ) (bs : List Branch) → Pair d f g (among_branches prog calls value last bs) (among_branches prog calls' value last bs)
+  among_branches_pair value last [] = give_pair d f g (GoOn last)
+  among_branches_pair value last (b ∷ bs) = among_values_pair value b.line b.after b.values _ _ (among_branches_pair value last bs)
+
+  case_pair : (place line : ℕ) (x : Any) → Pair d f g (case_of prog calls place line x) (case_of prog calls' place line x)
+  case_pair place line (any.Number x) =
+      bind_pair d f g _ _ _ _ (evaluate_pair line x) (λ value. among_branches_pair value (after_end prog OpensCase place) (branches_of prog place))
+  case_pair place line (any.Text x) = outside_pair Next
+
+  met_pair : (place : ℕ) (h : Head) → Pair d f g (met prog place h) (met prog place h)
+  met_pair place head.BlockElse = give_pair d f g _
+  met_pair place head.EndIf = give_pair d f g _
+  met_pair place (head.When values) = give_pair d f g _
+  met_pair place head.Otherwise = give_pair d f g _
+  met_pair place head.EndCase = give_pair d f g _
+  met_pair place _ = outside_pair Next
+
   pub item_pair : (level : Level) (place line : ℕ) (i : Item) → Pair d f g (execute_item prog calls level place line i) (execute_item prog calls' level place line i)
+  item_pair level place line (item.Head h) = met_pair place h
+  item_pair level place line (item.BlockIf x) = bind_pair d f g _ _ _ _ (evaluate_pair line x) (λ value. give_pair d f g _)
+  item_pair level place line (item.Case x) = case_pair place line x
+  item_pair level place line (item.Data n) = give_pair d f g (GoOn (place + 1))
   item_pair level place line (item.Stmt s) = statement_pair level place line s
   item_pair level place line (item.If x) = bind_pair d f g _ _ _ _ (evaluate_pair line x) (λ value. give_pair d f g _)
   item_pair level place line (item.On x jump lines) = bind_pair d f g _ _ _ _ (evaluate_pair line x) (λ value. on_chosen_pair level place line jump (chosen value lines))

@@ -1,7 +1,11 @@
 -- The laws of runs: a greater bound keeps an end, the fuel is never seen, and the outermost level is never left.
 use Rattle.std.proofs.Common.{◌≡◌, ℕ, zero, suc, ◌+◌, ◌≤◌, List, [], ◌∷◌, Option, None, Some, refl, sym, ap, subst, ◌∙◌, arith, rules}
 use Rattle.std.specs.Prelude.{ℤ, Bool, true, false, pos, nat_le}
+use Rattle.bas_ast.specs.declared.expressions.Any.{Any}
+use Rattle.bas_ast.specs.declared.expressions.Any.TheVariants as any
 use Rattle.bas_ast.specs.declared.expressions.NumExpr.{NumExpr}
+use Rattle.bas_ast.specs.declared.lines.Head.{Head}
+use Rattle.bas_ast.specs.declared.lines.Head.TheVariants as head
 use Rattle.bas_ast.specs.declared.lines.Item.{Item}
 use Rattle.bas_ast.specs.declared.lines.Item.TheVariants as item
 use Rattle.bas_ast.specs.declared.lines.Jump.{Jump}
@@ -11,6 +15,7 @@ use Rattle.bas_ast.specs.declared.statements.Flow.{Flow}
 use Rattle.bas_ast.specs.declared.statements.Flow.TheVariants as flow
 use Rattle.bas_ast.specs.declared.statements.Stmt.{Stmt}
 use Rattle.bas_ast.specs.declared.statements.Stmt.TheVariants as stmt
+use Rattle.bas_ast.specs.Structures.{OpensCase}
 use Rattle.bas_store.specs.Cells.{Cell, integer_cell}
 use Rattle.bas_store.specs.Opened.{AnyNext, NextOf, EndWhile, Return}
 use Rattle.bas_store.specs.Stored.{Handler, Opening, For, Repeat, While, Gosub}
@@ -24,12 +29,13 @@ use Rattle.bas_sem.specs.State.{State, start}
 use Rattle.bas_sem.specs.Course.{Course, Value, Raised, Over, Spent, Action, on_value, ◌>>=◌, ◌>>◌}
 use Rattle.bas_sem.specs.Actions.{taker, raise, assign, spend, take_step, raised_to, taken, place_of, owner_of}
 use Rattle.bas_sem.specs.Calls.{Calls, Level, outermost, Next, GoOn, Leave, go_on, call, taken_here, handled, handling, onward}
+use Rattle.bas_sem.specs.Data.{restored, restore}
 use Rattle.bas_sem.specs.Evaluate.{evaluate}
-use Rattle.bas_sem.specs.Items.{assignment, go_to, gosub_to, back_or, nexts, next_of, step_of, while_if, goes, chosen, on_line, out_of_range, on_chosen, output, statement, execute_item}
+use Rattle.bas_sem.specs.Items.{assignment, go_to, gosub_to, back_or, nexts, next_of, step_of, while_if, goes, chosen, on_line, out_of_range, on_chosen, output, reads, statement, go_or, among_values, among_branches, case_of, met, execute_item}
 use Rattle.bas_sem.specs.Loops.{opens, closing, until, next}
 use Rattle.bas_sem.specs.Laws.{executed, GoesOn, IsKept, BoundKept, EndUnique, IsEnd, OutermostEnds}
 use Rattle.bas_sem.specs.Meaning.{at_row, execute, outcome_of, source_run}
-use Rattle.bas_sem.specs.Places.{Row, row_at}
+use Rattle.bas_sem.specs.Places.{Row, Branch, row_at, after_end, branches_of}
 use Rattle.bv_run.specs.declared.report.Report.TheVariants.{Done}
 use Rattle.bas_sem.proofs.Longer.{more, more-zero, state_in, prefix_refl, stays, Grows, Longer, longer-zero, Pair, bind_pair, over_pair}
 use Rattle.bas_sem.proofs.ItemPairs.{item_pair}
@@ -274,7 +280,37 @@ module _ (prog : Prog) where
   statement_going calls place line (stmt.Assign a) s = bind_going (assignment prog calls line a s) _ (λ v t. tt)
   statement_going calls place line (stmt.Flow w) s = goes_going calls place line w s
   statement_going calls place line (stmt.Output o) s = bind_going (output prog calls line o s) _ (λ v t. tt)
+  statement_going calls place line (stmt.Read variables) s = bind_going (reads prog line variables s) _ (λ v t. tt)
+  statement_going calls place line (stmt.Restore to) s = bind_going (restore (restored prog to) line s) _ (λ v t. tt)
   statement_going calls place line _ s = tt
+
+  go_or_going : (here : Bool) (place : ℕ) (rest : Action Next) → ((s : State) → IsGoing (rest s)) → (s : State) → IsGoing (go_or here place rest s)
+  go_or_going true place rest each s = tt
+  go_or_going false place rest each s = each s
+
+  among_values_going : (calls : Calls) (value : ℤ) (line after : ℕ) (xs : List Any) (later : Action Next) → ((s : State) → IsGoing (later s))
+      → (s : State) → IsGoing (among_values prog calls value line after xs later s)
+  among_values_going calls value line after [] later each s = each s
+  among_values_going calls value line after (any.Number x ∷ xs) later each s =
+      bind_going (evaluate prog calls line x s) _ (λ v t. go_or_going (int_eq v value) after _ (among_values_going calls value line after xs later each) t)
+  among_values_going calls value line after (any.Text x ∷ xs) later each s = tt
+
+  among_branches_going : (calls : Calls) (value : ℤ) (last : ℕ) (bs : List Branch) (s : State) → IsGoing (among_branches prog calls value last bs s)
+  among_branches_going calls value last [] s = tt
+  among_branches_going calls value last (b ∷ bs) s = among_values_going calls value b.line b.after b.values _ (among_branches_going calls value last bs) s
+
+  case_going : (calls : Calls) (place line : ℕ) (x : Any) (s : State) → IsGoing (case_of prog calls place line x s)
+  case_going calls place line (any.Number x) s =
+      bind_going (evaluate prog calls line x s) _ (λ value t. among_branches_going calls value (after_end prog OpensCase place) (branches_of prog place) t)
+  case_going calls place line (any.Text x) s = tt
+
+  met_going : (place : ℕ) (h : Head) (s : State) → IsGoing (met prog place h s)
+  met_going place (head.When values) s = tt
+  met_going place head.Otherwise s = tt
+  met_going place head.BlockElse s = tt
+  met_going place head.EndIf s = tt
+  met_going place head.EndCase s = tt
+  met_going place _ s = tt
 
   on_line_going : (place line : ℕ) (jump : Jump) (number : ℕ) (s : State) → IsGoing (on_line prog outermost place line jump number s)
   on_line_going place line jumps.Goto number s = go_to_going _ line s
@@ -289,6 +325,10 @@ module _ (prog : Prog) where
   on_chosen_going place line jump (Some number) s = on_line_going place line jump number s
 
   item_going : (calls : Calls) (place line : ℕ) (i : Item) (s : State) → IsGoing (execute_item prog calls outermost place line i s)
+  item_going calls place line (item.Head h) s = met_going place h s
+  item_going calls place line (item.BlockIf x) s = bind_going (evaluate prog calls line x s) _ (λ v t. tt)
+  item_going calls place line (item.Case x) s = case_going calls place line x s
+  item_going calls place line (item.Data n) s = tt
   item_going calls place line (item.Stmt x) s = statement_going calls place line x s
   item_going calls place line (item.If x) s = bind_going (evaluate prog calls line x s) _ (λ v t. tt)
   item_going calls place line (item.On x jump lines) s = bind_going (evaluate prog calls line x s) _ (λ value t. on_chosen_going place line jump (chosen value lines) t)

@@ -2,8 +2,12 @@
 -- forms that have no meaning yet share the last equation of their family.
 use Rattle.std.specs.Prelude.{ℕ, suc, ◌+◌, ◌-◌, ℤ, pos, Bool, true, false, List, [], ◌∷◌, Option, None, Some, slice_get, if◌then◌else◌}
 use Rattle.std.specs.Ordering.{int_eq}
+use Rattle.bas_ast.specs.declared.expressions.Any.{Any}
+use Rattle.bas_ast.specs.declared.expressions.Any.TheVariants as any
 use Rattle.bas_ast.specs.declared.expressions.NumExpr.{NumExpr}
 use Rattle.bas_ast.specs.declared.expressions.Variable.TheVariants as var
+use Rattle.bas_ast.specs.declared.lines.Head.{Head}
+use Rattle.bas_ast.specs.declared.lines.Head.TheVariants as head
 use Rattle.bas_ast.specs.declared.lines.Item.{Item}
 use Rattle.bas_ast.specs.declared.lines.Item.TheVariants as item
 use Rattle.bas_ast.specs.declared.lines.Jump.{Jump}
@@ -22,6 +26,9 @@ use Rattle.bas_ast.specs.declared.statements.Stmt.TheVariants as stmt
 use Rattle.bas_ast.specs.declared.statements.VduPart.{VduPart}
 use Rattle.bas_ast.specs.declared.statements.VduPart.TheVariants as sends
 use Rattle.bas_ast.specs.declared.targets.NumTarget.TheVariants as target
+use Rattle.bas_ast.specs.declared.targets.Target.{Target}
+use Rattle.bas_ast.specs.declared.targets.Target.TheVariants as targets
+use Rattle.bas_ast.specs.Structures.{OpensWhile, OpensIf, DividesIf, OpensCase, DividesCase}
 use Rattle.bas_store.specs.Cells.{integer_cell}
 use Rattle.bas_store.specs.Opened.{AnyNext, NextOf, EndWhile, Return}
 use Rattle.bas_store.specs.Stored.{For, Repeat, While, Gosub}
@@ -32,9 +39,10 @@ use Rattle.bv_run.specs.declared.report.Report.TheVariants.{Done}
 use Rattle.bas_sem.specs.Course.{Action, ◌>>=◌, ◌>>◌, give, over}
 use Rattle.bas_sem.specs.Actions.{outside, read, assign, write, raise, or_raise}
 use Rattle.bas_sem.specs.Calls.{Calls, Level, Next, go_on}
+use Rattle.bas_sem.specs.Data.{data_texts, next_number, restored, restore}
 use Rattle.bas_sem.specs.Evaluate.{evaluate, evaluate_text}
 use Rattle.bas_sem.specs.Loops.{opens, closing, until, next}
-use Rattle.bas_sem.specs.Places.{next_line, else_place, on_else, after_endwhile, line_place}
+use Rattle.bas_sem.specs.Places.{Branch, next_line, else_place, on_else, after_end, branches_of, line_place}
 
 -- LET: the value is evaluated and then stored. `+=` and `-=` read the old value before they evaluate the other.
 abbrev pub assignment : Prog → Calls → ℕ → Assignment → Action (Unit {0})
@@ -85,7 +93,7 @@ step_of prog calls line (Some x) = evaluate prog calls line x
 
 -- WHILE at a place, by whether its value is 0
 abbrev pub while_if : Bool → Prog → Level → ℕ → ℕ → Action Next
-while_if true prog level place line = go_on (after_endwhile prog place)
+while_if true prog level place line = go_on (after_end prog OpensWhile place)
 while_if false prog level place line = opens level.depth line While (place + 1) >> go_on (place + 1)
 
 -- What says where the run goes on. A line that the program doesn't have is an error when it is gone to. FOR stores its start before
@@ -178,24 +186,76 @@ output prog calls line (writes.Mode x) = evaluate prog calls line x >>= (λ valu
 output prog calls line (writes.Colour x) = evaluate prog calls line x >>= (λ value. write (out.Colour value))
 output prog calls line writes.Cls = write out.Clear
 
+-- READ: for each variable the next item of DATA is taken, and then its number is stored.
+abbrev pub reads : Prog → ℕ → List Target → Action (Unit {0})
+reads prog line [] = give tt
+reads prog line (targets.Number (target.Variable (var.Simple name)) ∷ others) = do
+  value ← next_number (data_texts prog) line
+  assign (integer_cell prog.names name) value
+  reads prog line others
+reads prog line _ = outside
+
 -- a plain statement at a place
 abbrev pub statement : Prog → Calls → Level → ℕ → ℕ → Stmt → Action Next
 statement prog calls level place line (stmt.Assign a) = assignment prog calls line a >> go_on (place + 1)
 statement prog calls level place line (stmt.Flow f) = goes prog calls level place line f
 statement prog calls level place line (stmt.Output o) = output prog calls line o >> go_on (place + 1)
+statement prog calls level place line (stmt.Read variables) = reads prog line variables >> go_on (place + 1)
+statement prog calls level place line (stmt.Restore to) = restore (restored prog to) line >> go_on (place + 1)
 statement prog calls level place line _ = outside
 
 -- Where IF goes on: with 0 after the first ELSE after it on its line, or at the next line where there is none.
 abbrev pub branch : Prog → ℕ → ℤ → ℕ
 branch prog place value = if int_eq value (pos 0) then else_place prog place else place + 1
 
--- An item at a place. A met ELSE goes on at the next line. REM is the last item of its line.
+-- Where a block IF goes on: with 0 after its ELSE or ENDIF.
+abbrev pub block_branch : Prog → ℕ → ℤ → ℕ
+block_branch prog place value = if int_eq value (pos 0) then after_end prog OpensIf place else place + 1
+
+-- goes on at a place, or else with the rest
+abbrev pub go_or : Bool → ℕ → Action Next → Action Next
+go_or true place rest = go_on place
+go_or false place rest = rest
+
+-- The values of a WHEN of a line, which has this place after it, against that of its CASE. At the first equal one the run goes on after
+-- the WHEN, and no later one is evaluated.
+abbrev pub among_values : Prog → Calls → ℤ → (line after : ℕ) → List Any → Action Next → Action Next
+among_values prog calls value line after [] later = later
+among_values prog calls value line after (any.Number x ∷ xs) later =
+    evaluate prog calls line x >>= (λ v. go_or (int_eq v value) after (among_values prog calls value line after xs later))
+among_values prog calls value line after (any.Text x ∷ xs) later = outside
+
+-- the value of a CASE against those of its WHENs, or else the run goes on after its OTHERWISE or ENDCASE
+abbrev pub among_branches : Prog → Calls → ℤ → ℕ → List Branch → Action Next
+among_branches prog calls value last [] = go_on last
+among_branches prog calls value last (b ∷ bs) = among_values prog calls value b.line b.after b.values (among_branches prog calls value last bs)
+
+-- CASE at a place
+abbrev pub case_of : Prog → Calls → ℕ → ℕ → Any → Action Next
+case_of prog calls place line (any.Number x) =
+    evaluate prog calls line x >>= (λ value. among_branches prog calls value (after_end prog OpensCase place) (branches_of prog place))
+case_of prog calls place line (any.Text x) = outside
+
+-- What begins a line, where it is met: the ELSE of a block IF goes on after its ENDIF, WHEN and OTHERWISE after their ENDCASE.
+abbrev pub met : Prog → ℕ → Head → Action Next
+met prog place head.BlockElse = go_on (after_end prog DividesIf place)
+met prog place head.EndIf = go_on (place + 1)
+met prog place (head.When values) = go_on (after_end prog DividesCase place)
+met prog place head.Otherwise = go_on (after_end prog DividesCase place)
+met prog place head.EndCase = go_on (place + 1)
+met prog place _ = outside
+
+-- An item at a place. A met ELSE goes on at the next line. DATA and REM are the last items of their lines.
 abbrev pub execute_item : Prog → Calls → Level → ℕ → ℕ → Item → Action Next
+execute_item prog calls level place line (item.Head h) = met prog place h
 execute_item prog calls level place line (item.Stmt s) = statement prog calls level place line s
 execute_item prog calls level place line (item.If x) = evaluate prog calls line x >>= (λ value. go_on (branch prog place value))
+execute_item prog calls level place line (item.BlockIf x) = evaluate prog calls line x >>= (λ value. go_on (block_branch prog place value))
 execute_item prog calls level place line (item.On x jump lines) =
     evaluate prog calls line x >>= (λ value. on_chosen prog level place line jump (chosen value lines))
+execute_item prog calls level place line (item.Case x) = case_of prog calls place line x
 execute_item prog calls level place line item.Repeat = opens level.depth line Repeat (place + 1) >> go_on (place + 1)
 execute_item prog calls level place line item.Else = go_on (next_line prog place)
+execute_item prog calls level place line (item.Data n) = go_on (place + 1)
 execute_item prog calls level place line item.Remark = go_on (place + 1)
 execute_item prog calls level place line _ = outside

@@ -2,6 +2,7 @@ pub mod State
 pub mod Course
 pub mod Actions
 pub mod Places
+pub mod Data
 pub mod Operators
 pub mod Loops
 pub mod Calls

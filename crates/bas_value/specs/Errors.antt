@@ -46,6 +46,10 @@ on_range = 40
 abbrev pub no_such_line : ℕ
 no_such_line = 41
 
+-- READ past the last item of DATA
+abbrev pub out_of_data : ℕ
+out_of_data = 42
+
 -- UNTIL where no REPEAT is open
 abbrev pub no_repeat : ℕ
 no_repeat = 43
