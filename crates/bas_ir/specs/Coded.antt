@@ -42,7 +42,7 @@ HasCounterWidth (counters.Resident index) = index < 2 ^ 8
 HasCounterWidth (counters.Integer name) = name < 2 ^ 16
 
 -- The numbers of an operation that has machine code have the widths of their fields: integers have 32 bits with a sign, places of
--- items and texts 32 bits, names and lines 16 bits, residents and errors 8 bits.
+-- items, texts and items of DATA 32 bits, names and lines 16 bits, residents and errors 8 bits.
 abbrev pub HasWidths : Op → Type 0
 HasWidths (o.Push value) = FitsSigned w32 value
 HasWidths (o.PushResident index) = index < 2 ^ 8
@@ -55,17 +55,20 @@ HasWidths (o.StoreInteger name) = name < 2 ^ 16
 HasWidths (o.Go item) = item < 2 ^ 32
 HasWidths (o.GoIfZero item) = item < 2 ^ 32
 HasWidths (o.GoIfOne item) = item < 2 ^ 32
-HasWidths (o.GosubIfOne item line) = (item < 2 ^ 32) × (line < 2 ^ 16)
+HasWidths (o.GosubIfOne line item) = (item < 2 ^ 32) × (line < 2 ^ 16)
+HasWidths (o.GoIfEqual item) = item < 2 ^ 32
 HasWidths (o.RaiseIfOne error line) = (error < 2 ^ 8) × (line < 2 ^ 16)
 HasWidths (o.OpenFor counter line) = HasCounterWidth counter × (line < 2 ^ 16)
 HasWidths (o.OpenRepeat line) = line < 2 ^ 16
 HasWidths (o.OpenWhile line) = line < 2 ^ 16
-HasWidths (o.Gosub item line) = (item < 2 ^ 32) × (line < 2 ^ 16)
+HasWidths (o.Gosub line item) = (item < 2 ^ 32) × (line < 2 ^ 16)
 HasWidths (o.Next counter line) = HasCounterWidth counter × (line < 2 ^ 16)
 HasWidths (o.NextAny line) = line < 2 ^ 16
 HasWidths (o.Until line) = line < 2 ^ 16
 HasWidths (o.EndWhile line) = line < 2 ^ 16
 HasWidths (o.Return line) = line < 2 ^ 16
+HasWidths (o.ReadNumber line) = line < 2 ^ 16
+HasWidths (o.Restore item) = item < 2 ^ 32
 HasWidths (o.Raise error line) = (error < 2 ^ 8) × (line < 2 ^ 16)
 HasWidths _ = Unit {0}
 
@@ -78,8 +81,9 @@ abbrev pub LeavesNothing : Ir → ℕ → Op → Type 0
 LeavesNothing ir pc (o.Go item) = height_at ir pc ≡ empty_height
 LeavesNothing ir pc (o.GoIfZero item) = height_at ir (suc pc) ≡ empty_height
 LeavesNothing ir pc (o.GoIfOne item) = height_at ir (suc pc) ≡ one_more empty_height
-LeavesNothing ir pc (o.GosubIfOne item line) = height_at ir (suc pc) ≡ one_more empty_height
-LeavesNothing ir pc (o.Gosub item line) = height_at ir pc ≡ empty_height
+LeavesNothing ir pc (o.GosubIfOne line item) = height_at ir (suc pc) ≡ one_more empty_height
+LeavesNothing ir pc (o.GoIfEqual item) = height_at ir (suc pc) ≡ one_more empty_height
+LeavesNothing ir pc (o.Gosub line item) = height_at ir pc ≡ empty_height
 LeavesNothing ir pc (o.Next counter line) = height_at ir pc ≡ empty_height
 LeavesNothing ir pc (o.NextAny line) = height_at ir pc ≡ empty_height
 LeavesNothing ir pc (o.Until line) = height_at ir (suc pc) ≡ empty_height

@@ -1,7 +1,7 @@
 //! The flat code of a program, with its tables.
 
 use crate::op::Op;
-use bas_ast::{DataItem, Name, SimpleVariable};
+use bas_ast::{Name, SimpleVariable};
 use bas_value::Str;
 use sqlite_items::Items;
 
@@ -21,7 +21,8 @@ pub struct Ir {
     /// The string literals.
     pub texts: Items<Str>,
     pub names: Items<Name>,
-    pub data_items: Items<DataItem>,
+    /// The texts of the items of DATA.
+    pub data_items: Items<Str>,
     /// For each line, its number and the place of its first operation.
     pub line_starts: Items<LineStart>,
     /// A bound of the program's weight, in units of which each stands for at most 96 bytes of machine code.
