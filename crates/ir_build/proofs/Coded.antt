@@ -1,6 +1,8 @@
 -- Each operation of a program's code has machine code, and at most one string is pending before it.
 use Rattle.std.proofs.Common.{◌≡◌, ℕ, zero, suc, ◌+◌, ◌≤◌, List, [], ◌∷◌, ◌++◌, Option, None, Some, refl, sym, subst, ◌∙◌, ap, append_assoc, lit≤, arith}
 use Rattle.std.specs.Prelude.{Bool, true, false, flat_map, slice_get, slice_index_or}
+use Rattle.bas_ast.specs.declared.expressions.Any.{Any}
+use Rattle.bas_ast.specs.declared.expressions.Any.TheVariants as any
 use Rattle.bas_ast.specs.declared.expressions.BinaryOp.{BinaryOp}
 use Rattle.bas_ast.specs.declared.expressions.BinaryOp.TheVariants as operators
 use Rattle.bas_ast.specs.declared.expressions.NumExpr.{NumExpr, more_of-NumExpr as held}
@@ -10,6 +12,8 @@ use Rattle.bas_ast.specs.declared.expressions.StrExpr.TheVariants as str
 use Rattle.bas_ast.specs.declared.expressions.UnaryOp.{UnaryOp}
 use Rattle.bas_ast.specs.declared.expressions.UnaryOp.TheVariants as unary
 use Rattle.bas_ast.specs.declared.expressions.Variable.TheVariants as var
+use Rattle.bas_ast.specs.declared.lines.Head.{Head}
+use Rattle.bas_ast.specs.declared.lines.Head.TheVariants as head
 use Rattle.bas_ast.specs.declared.lines.Item.{Item}
 use Rattle.bas_ast.specs.declared.lines.Item.TheVariants as item
 use Rattle.bas_ast.specs.declared.lines.Jump.{Jump}
@@ -28,6 +32,9 @@ use Rattle.bas_ast.specs.declared.statements.Stmt.TheVariants as stmt
 use Rattle.bas_ast.specs.declared.statements.VduPart.{VduPart}
 use Rattle.bas_ast.specs.declared.statements.VduPart.TheVariants as sends
 use Rattle.bas_ast.specs.declared.targets.NumTarget.TheVariants as target
+use Rattle.bas_ast.specs.declared.targets.Target.{Target}
+use Rattle.bas_ast.specs.declared.targets.Target.TheVariants as targets
+use Rattle.bas_ast.specs.Structures.{OpensWhile, OpensIf, OpensCase}
 use Rattle.bas_ir.specs.declared.ir.Height.{Height}
 use Rattle.bas_ir.specs.declared.op.Op.{Op}
 use Rattle.bas_ir.specs.declared.op.Op.TheVariants as o
@@ -35,8 +42,9 @@ use Rattle.bas_ir.specs.declared.op.Piece.TheVariants as pieces
 use Rattle.bas_ir.specs.Heights.{one_more, without_number, one_less, without_text, and_then, empty_height, height_after}
 use Rattle.bas_ir.specs.Coded.{HasCode, AllHaveCode, AtMostOneText}
 use Rattle.bas_store.specs.Cells.{Cell, Resident, Integer, integer_cell}
-use Rattle.bas_sem.specs.Places.{Row, rows, line_place, else_place, on_else, after_endwhile}
-use Rattle.ir_build.specs.Code.{unary_code, read_op, store_op, expr_code, text_code, assignment_code, go_op, gosub_op, counter_of, step_code, nexts_code, next_code, flow_code, choice_op, choices_code, otherwise_op, print_code, vdu_code, output_code, statement_code, item_code, or_jump, codes_from, codes, joined, heights_of, flat_code}
+use Rattle.bas_sem.specs.Data.{restored}
+use Rattle.bas_sem.specs.Places.{Row, Branch, rows, line_place, else_place, on_else, after_end, branches_of}
+use Rattle.ir_build.specs.Code.{unary_code, read_op, store_op, expr_code, text_code, assignment_code, go_op, gosub_op, counter_of, step_code, nexts_code, next_code, flow_code, choice_op, choices_code, otherwise_op, print_code, vdu_code, output_code, reads_code, restore_op, statement_code, values_code, branches_code, case_code, head_code, item_code, or_jump, codes_from, codes, joined, heights_of, flat_code}
 use Rattle.ir_build.proofs.Residents.{IsOneCell, integer_one}
 
 -- whether a string is pending after an operation, None where the operation may not come
@@ -137,7 +145,7 @@ module _ (prog : Prog) (line : ℕ) where
       (store_coded (integer_cell prog.names name) limit (integer_one prog.names name) (expr_coded y (step_code prog line z ++ opens) (step_coded z opens (tt, tt))))
   flow_coded place (flow.Next names) = next_coded names
   flow_coded place (flow.Until x) = expr_coded x (o.Until line ∷ []) (tt, tt)
-  flow_coded place (flow.While x) = expr_coded x (o.GoIfZero (after_endwhile prog place) ∷ o.OpenWhile line ∷ []) (tt, (tt, tt))
+  flow_coded place (flow.While x) = expr_coded x (o.GoIfZero (after_end prog OpensWhile place) ∷ o.OpenWhile line ∷ []) (tt, (tt, tt))
   flow_coded place flow.EndWhile = (tt, tt)
   flow_coded place flow.End = (tt, tt)
   flow_coded place flow.Stop = (lit≤ tt, tt)
@@ -169,10 +177,22 @@ module _ (prog : Prog) (line : ℕ) where
   output_coded (writes.Colour x) = expr_coded x (o.Write pieces.Colour ∷ []) (tt, tt)
   output_coded writes.Cls = (tt, tt)
 
+  restore_coded : (to : Option ℕ) → AreCoded (restore_op to line ∷ [])
+  restore_coded None = (lit≤ tt, tt)
+  restore_coded (Some place) = (tt, tt)
+
+  reads_coded : (variables : List Target) → AreCoded (reads_code prog line variables)
+  reads_coded [] = tt
+  reads_coded (targets.Number (target.Variable (var.Simple name)) ∷ others) =
+      (tt, store_coded (integer_cell prog.names name) (reads_code prog line others) (integer_one prog.names name) (reads_coded others))
+  reads_coded (_ ∷ others) = (tt, tt)
+
   statement_coded : (place : ℕ) (x : Stmt) → AreCoded (statement_code prog place line x)
   statement_coded place (stmt.Assign a) = assignment_coded a
   statement_coded place (stmt.Flow w) = flow_coded place w
   statement_coded place (stmt.Output w) = output_coded w
+  statement_coded place (stmt.Read variables) = reads_coded variables
+  statement_coded place (stmt.Restore to) = restore_coded (restored prog to)
   statement_coded place _ = (tt, tt)
 
   choice_coded : (jump : Jump) (to : Option ℕ) (ops : List Op) → AreCoded ops → AreCoded (choice_op jump to line ∷ ops)
@@ -189,14 +209,46 @@ module _ (prog : Prog) (line : ℕ) where
   otherwise_coded None = (lit≤ tt, tt)
   otherwise_coded (Some place) = (tt, tt)
 
+  values_coded : (after : ℕ) (values : List Any) (ops : List Op) → AreCoded ops → AreCoded (values_code prog line after values ++ ops)
+  values_coded after [] ops coded = coded
+  values_coded after (any.Number x ∷ values) ops coded =
+      subst AreCoded (sym (append_assoc (expr_code prog line x) (o.GoIfEqual after ∷ values_code prog line after values) ops))
+      (expr_coded x (o.GoIfEqual after ∷ (values_code prog line after values ++ ops)) (tt, values_coded after values ops coded))
+  values_coded after (any.Text x ∷ values) ops coded = (tt, coded)
+
+  head_coded : (place : ℕ) (h : Head) → AreCoded (head_code prog place h)
+  head_coded place head.BlockElse = (tt, tt)
+  head_coded place head.EndIf = tt
+  head_coded place (head.When values) = (tt, tt)
+  head_coded place head.Otherwise = (tt, tt)
+  head_coded place head.EndCase = tt
+  head_coded place _ = (tt, tt)
+
+branches_coded : (prog : Prog) (branches : List Branch) (ops : List Op) → AreCoded ops → AreCoded (branches_code prog branches ++ ops)
+branches_coded prog [] ops coded = coded
+branches_coded prog (b ∷ branches) ops coded =
+    subst AreCoded (sym (append_assoc (values_code prog b.line b.after b.values) (branches_code prog branches) ops))
+    (values_coded prog b.line b.after b.values (branches_code prog branches ++ ops) (branches_coded prog branches ops coded))
+
+module _ (prog : Prog) (line : ℕ) where
+  case_coded : (place : ℕ) (x : Any) → AreCoded (case_code prog place line x)
+  case_coded place (any.Number x) =
+      let search : List Op = branches_code prog (branches_of prog place) ++ o.Discard ∷ o.Go (after_end prog OpensCase place) ∷ [] in
+      expr_coded prog line x search (branches_coded prog (branches_of prog place) (o.Discard ∷ o.Go (after_end prog OpensCase place) ∷ []) (tt, (tt, tt)))
+  case_coded place (any.Text x) = (tt, tt)
+
   item_coded : (place : ℕ) (i : Item) → AreCoded (item_code prog place line i)
-  item_coded place (item.Stmt x) = statement_coded place x
-  item_coded place (item.If x) = expr_coded x (o.GoIfZero (else_place prog place) ∷ []) (tt, tt)
+  item_coded place (item.Head h) = head_coded prog line place h
+  item_coded place (item.Stmt x) = statement_coded prog line place x
+  item_coded place (item.If x) = expr_coded prog line x (o.GoIfZero (else_place prog place) ∷ []) (tt, tt)
+  item_coded place (item.BlockIf x) = expr_coded prog line x (o.GoIfZero (after_end prog OpensIf place) ∷ []) (tt, tt)
+  item_coded place (item.Case x) = case_coded place x
   item_coded place (item.On x jump numbers) =
       let otherwise : List Op = o.Discard ∷ otherwise_op (on_else prog place) line ∷ [] in
-      expr_coded x (choices_code prog line jump numbers ++ otherwise) (choices_coded jump numbers otherwise (tt, otherwise_coded (on_else prog place)))
+      expr_coded prog line x (choices_code prog line jump numbers ++ otherwise) (choices_coded prog line jump numbers otherwise (tt, otherwise_coded prog line (on_else prog place)))
   item_coded place item.Repeat = (tt, tt)
   item_coded place item.Else = (tt, tt)
+  item_coded place (item.Data n) = tt
   item_coded place item.Remark = tt
   item_coded place _ = (tt, tt)
 
@@ -287,12 +339,15 @@ step_has false (o.Go item) numbers texts is has = is
 step_has false (o.GoIfZero item) numbers texts is has = without_has false numbers texts is
 step_has false o.Discard numbers texts is has = without_has false numbers texts is
 step_has false (o.GoIfOne item) numbers texts is has = one_for_one_has false numbers texts is
-step_has false (o.GosubIfOne item line) numbers texts is has = one_for_one_has false numbers texts is
+step_has false (o.GosubIfOne line item) numbers texts is has = one_for_one_has false numbers texts is
 step_has false (o.RaiseIfOne error line) numbers texts is has = one_for_one_has false numbers texts is
+step_has false (o.GoIfEqual item) numbers texts is has = one_for_two_has false numbers texts is
+step_has false (o.ReadNumber line) numbers texts is has = is
+step_has false (o.Restore item) numbers texts is has = is
 step_has false (o.OpenFor counter line) numbers texts is has = two_less_has false numbers texts is
 step_has false (o.OpenRepeat line) numbers texts is has = is
 step_has false (o.OpenWhile line) numbers texts is has = is
-step_has false (o.Gosub item line) numbers texts is has = is
+step_has false (o.Gosub line item) numbers texts is has = is
 step_has false (o.Next counter line) numbers texts is has = is
 step_has false (o.NextAny line) numbers texts is has = is
 step_has false (o.Until line) numbers texts is has = without_has false numbers texts is

@@ -1,12 +1,14 @@
 -- The code of a statement fits the terminals that spell it out, and spares 12 bytes: 8 for a jump, and 4 for the branch to its item.
-use Rattle.std.proofs.Common.{◌≡◌, ℕ, ◌≤◌, List, [], ◌∷◌, ◌++◌, Option, None, Some, refl, subst, lit≤, arith}
-use Rattle.std.specs.Prelude.{Bool, true, false}
+use Rattle.std.proofs.Common.{◌≡◌, ℕ, suc, ◌≤◌, List, [], ◌∷◌, ◌++◌, Option, None, Some, refl, subst, length, lit≤, arith}
+use Rattle.std.proofs.lemmas.List.{length-map}
+use Rattle.std.specs.Prelude.{Bool, true, false, nat_lt, if◌then◌else◌}
 use Rattle.bas_ast.specs.declared.expressions.BinaryOp.{BinaryOp}
 use Rattle.bas_ast.specs.declared.expressions.BinaryOp.TheVariants as op
 use Rattle.bas_ast.specs.declared.expressions.NumExpr.{NumExpr}
 use Rattle.bas_ast.specs.declared.expressions.NumberFormat.TheVariants as format
 use Rattle.bas_ast.specs.declared.keywords.Keyword.{Keyword}
 use Rattle.bas_ast.specs.declared.keywords.Keyword.TheVariants as word
+use Rattle.bas_ast.specs.declared.program.DataItem.{DataItem}
 use Rattle.bas_ast.specs.declared.program.Prog.{Prog}
 use Rattle.bas_ast.specs.declared.statements.Assignment.{Assignment}
 use Rattle.bas_ast.specs.declared.statements.Assignment.TheVariants as assignment
@@ -16,22 +18,25 @@ use Rattle.bas_ast.specs.declared.statements.Stmt.{Stmt}
 use Rattle.bas_ast.specs.declared.statements.Stmt.TheVariants as stmt
 use Rattle.bas_ast.specs.declared.statements.VduPart.{VduPart}
 use Rattle.bas_ast.specs.declared.targets.NumTarget.{NumTarget}
+use Rattle.bas_ast.specs.declared.targets.Target.{Target}
 use Rattle.bas_ast.specs.declared.terminals.Terminal.{Terminal}
 use Rattle.bas_ast.specs.declared.terminals.Terminal.TheVariants as t
 use Rattle.bas_ast.specs.Expressions as e
 use Rattle.bas_ast.specs.Expressions.{IsNum, IsStr}
 use Rattle.bas_ast.specs.Operands as g
-use Rattle.bas_ast.specs.Operands.{IsNumTarget, IsIntName, Slot, ANumber, Values, ValueOf, AnIntName, IsOperands, IsList}
+use Rattle.bas_ast.specs.Operands.{IsNumTarget, IsTarget, IsIntName, Slot, ANumber, ATarget, Values, ValueOf, AnIntName, IsOperands, IsList}
 use Rattle.bas_ast.specs.Statements as s
+use Rattle.bas_ast.specs.Structures.{OpensWhile}
 use Rattle.bas_ast.specs.Statements.{Form, Takes, Lists, OwnForm, form, equals, IsPrint, IsVdu, IsAssignment, IsStmt}
 use Rattle.bas_ir.specs.WellFormed.{IsCounter}
 use Rattle.bas_ir.specs.declared.op.Mark.TheVariants as marks
 use Rattle.bas_ir.specs.declared.op.Op.{Op}
 use Rattle.bas_ir.specs.declared.op.Op.TheVariants as o
 use Rattle.bas_ir.specs.declared.op.Piece.TheVariants as pieces
-use Rattle.bas_sem.specs.Places.{after_endwhile, line_place}
+use Rattle.bas_sem.specs.Data.{data_texts, items_before, first_behind}
+use Rattle.bas_sem.specs.Places.{after_end, line_place, line_of_number}
 use Rattle.bas_store.specs.Cells.{Cell, Resident, Integer, integer_cell}
-use Rattle.ir_build.specs.Code.{read_op, store_op, expr_code, assignment_code, go_op, gosub_op, counter_of, step_code, for_code, nexts_code, next_code, finish_code, flat_code, print_code, vdu_code, statement_code}
+use Rattle.ir_build.specs.Code.{read_op, store_op, expr_code, assignment_code, go_op, gosub_op, counter_of, step_code, for_code, nexts_code, next_code, finish_code, flat_code, print_code, vdu_code, reads_code, restore_op, statement_code}
 use Rattle.ir_build.proofs.Fits.{worth, cost, pushes, AllKnown, AllThere, Fits, around, beside, then_ops, after, before, within, stops, stops_between, front_known, back_known}
 use Rattle.ir_build.proofs.FitExpressions.{IsCell, cell_of, read_fits, store_there, store_cost, store_pushes, num_fits, text_fits}
 
@@ -229,12 +234,69 @@ module _ (prog : Prog) (place line : ℕ) where
   next_fits a ns (g.last_of_list a' n d) known = after (t.Keyword word.Next) (names_fit a ns (g.last_of_list a' n d) known) (lit≤ tt)
   next_fits a ns (g.more_of_list a' b n rest d d') known = after (t.Keyword word.Next) (names_fit a ns (g.more_of_list a' b n rest d d') known) (lit≤ tt)
 
+  -- ---- READ and RESTORE
+
+  -- less is spared than by the end of a run
+  nothing_spared : {a : List Terminal} {ops : List Op} → Fits prog 0 64 a ops → Fits prog 0 0 a ops
+  nothing_spared {a} {ops} fits = record { there = fits.there; cheap = omega (arith, fits.cheap); low = fits.low }
+
+  taken_fits : (n : ℕ) (cell : Cell) → IsCell prog line cell → Fits prog 0 0 (t.IntName n ∷ []) (o.ReadNumber line ∷ store_op cell ∷ [])
+  taken_fits n cell known = record {
+    there = (tt, store_there prog line cell known);
+    cheap = omega (arith, store_cost prog line cell);
+    low = omega (arith, store_pushes prog line cell);
+  }
+
+  target_fits : (a : List Terminal) (v : Target) → IsTarget a v → AllKnown prog a → Fits prog 0 0 a (reads_code prog line (v ∷ []))
+  target_fits a v (g.number_target _ w (g.to_variable _ u (e.simple n))) known = taken_fits n (integer_cell prog.names n) (cell_of prog line n known.0)
+  target_fits a v (g.number_target _ w (g.to_variable _ u (e.element n a' xs k))) known = nothing_spared (stops (t.IntArray n) a' (lit≤ tt))
+  target_fits a v (g.number_target _ w (g.to_memory u a' y k)) known = nothing_spared (stops (t.Indirection u) a' (lit≤ tt))
+  target_fits a v (g.number_target _ w (g.to_memory_sum a' b' u z y k k')) known = nothing_spared (stops_between a' (t.Indirection z) b' (lit≤ tt))
+  target_fits a v (g.text_target _ w (g.text_to_variable _ u (e.text_simple n))) known = nothing_spared (stops (t.StrName n) [] (lit≤ tt))
+  target_fits a v (g.text_target _ w (g.text_to_variable _ u (e.text_element n a' xs k))) known = nothing_spared (stops (t.StrArray n) a' (lit≤ tt))
+  target_fits a v (g.text_target _ w (g.text_to_memory a' y k)) known = nothing_spared (stops t.Dollar a' (lit≤ tt))
+
+  targets_fit : (a b : List Terminal) (v : Target) (others : List Target) → IsTarget a v → AllKnown prog a → Fits prog 0 0 b (reads_code prog line others)
+      → Fits prog 0 0 (a ++ t.Comma ∷ b) (reads_code prog line (v ∷ others))
+  targets_fit a b v others (g.number_target _ w (g.to_variable _ u (e.simple n))) known rest =
+      beside (taken_fits n (integer_cell prog.names n) (cell_of prog line n known.0)) (after {D = 0} {S = 0} t.Comma rest (lit≤ tt)) (lit≤ tt)
+  targets_fit a b v others (g.number_target _ w (g.to_variable _ u (e.element n a' xs k))) known rest = nothing_spared (stops_between a t.Comma b (lit≤ tt))
+  targets_fit a b v others (g.number_target _ w (g.to_memory u a' y k)) known rest = nothing_spared (stops_between a t.Comma b (lit≤ tt))
+  targets_fit a b v others (g.number_target _ w (g.to_memory_sum a' b' u z y k k')) known rest = nothing_spared (stops_between a t.Comma b (lit≤ tt))
+  targets_fit a b v others (g.text_target _ w d) known rest = nothing_spared (stops_between a t.Comma b (lit≤ tt))
+
+  reads_fit : (a : List Terminal) (vs : List Target) → IsList ATarget a vs → AllKnown prog a → Fits prog 0 0 a (reads_code prog line vs)
+  reads_fit a vs (g.last_of_list _ v d) known = target_fits a v d known
+  reads_fit a vs (g.more_of_list a' b v others d d') known =
+      targets_fit a' b v others d (front_known prog a' (t.Comma ∷ b) known) (reads_fit b others d' (back_known prog a' (t.Comma ∷ b) known).1)
+
+  -- a place among the items of DATA, or that after them all
+  abbrev IsDataPlace : Option ℕ → Type 0
+  IsDataPlace None = Unit {0}
+  IsDataPlace (Some item) = item ≤ length (data_texts prog)
+
+  count_up_to : (b : Bool) (count n : ℕ) → count ≤ n → (if b then suc count else 0) ≤ suc n
+  count_up_to true count n few = omega (arith, few)
+  count_up_to false count n few = omega arith
+
+  before_up_to : (items : List DataItem) (at : ℕ) → items_before items at ≤ length items
+  before_up_to [] at = omega arith
+  before_up_to (d ∷ ds) at = count_up_to (nat_lt d.line at) (items_before ds at) (length ds) (before_up_to ds at)
+
+  first_there : (at : Option ℕ) → IsDataPlace (first_behind prog.data_items at)
+  first_there None = tt
+  first_there (Some at) = omega (arith, before_up_to prog.data_items at, length-map prog.data_items (λ d. d.text))
+
+  restore_fits : (a : List Terminal) (to : Option ℕ) → IsDataPlace to → Fits prog 0 12 (t.Keyword word.Restore ∷ a) (restore_op to line ∷ [])
+  restore_fits a None there = record { there = (tt, tt); cheap = omega arith; low = omega arith }
+  restore_fits a (Some item) there = record { there = (there, tt); cheap = omega arith; low = omega arith }
+
   -- ---- words and their operands
 
   -- what a word's form makes of its operands
   abbrev FitsForm : Keyword → Form → Type 0
   FitsForm c (Takes ss f) = (a : List Terminal) (vs : Values ss) → IsOperands ss a vs → AllKnown prog a → Fits prog 0 12 (t.Keyword c ∷ a) (statement_code prog place line (f vs))
-  FitsForm c (Lists slot f) = (a : List Terminal) (vs : List (ValueOf slot)) → IsList slot a vs → Fits prog 0 12 (t.Keyword c ∷ a) (statement_code prog place line (f vs))
+  FitsForm c (Lists slot f) = (a : List Terminal) (vs : List (ValueOf slot)) → IsList slot a vs → AllKnown prog a → Fits prog 0 12 (t.Keyword c ∷ a) (statement_code prog place line (f vs))
   FitsForm c OwnForm = Unit {0}
 
   form_fits : (c : Keyword) → FitsForm c (form c)
@@ -242,7 +304,7 @@ module _ (prog : Prog) (place line : ℕ) where
   form_fits word.Gosub = λ a vs d known. gosub_fits (t.Keyword word.Gosub) a (line_place prog vs.0) refl
   form_fits word.Return = λ a vs d known. record { there = (tt, tt); cheap = omega arith; low = omega arith }
   form_fits word.Until = λ a vs d known. valued_fits word.Until a vs (o.Until line ∷ []) refl d known (tt, tt) refl (lit≤ tt)
-  form_fits word.While = λ a vs d known. valued_fits word.While a vs (o.GoIfZero (after_endwhile prog place) ∷ o.OpenWhile line ∷ []) refl d known (tt, (tt, tt)) refl (lit≤ tt)
+  form_fits word.While = λ a vs d known. valued_fits word.While a vs (o.GoIfZero (after_end prog OpensWhile place) ∷ o.OpenWhile line ∷ []) refl d known (tt, (tt, tt)) refl (lit≤ tt)
   form_fits word.EndWhile = λ a vs d known. record { there = (tt, tt); cheap = omega arith; low = omega arith }
   form_fits word.End = λ a vs d known. ends (t.Keyword word.End) a (lit≤ tt)
   form_fits word.Stop = λ a vs d known. record { there = (tt, tt); cheap = omega arith; low = omega arith }
@@ -254,14 +316,14 @@ module _ (prog : Prog) (place line : ℕ) where
   form_fits word.Mode = λ a vs d known. valued_fits word.Mode a vs (o.Write pieces.Mode ∷ []) refl d known (tt, tt) refl (lit≤ tt)
   form_fits word.Colour = λ a vs d known. valued_fits word.Colour a vs (o.Write pieces.Colour ∷ []) refl d known (tt, tt) refl (lit≤ tt)
   form_fits word.Cls = λ a vs d known. record { there = (tt, tt); cheap = omega arith; low = omega arith }
-  form_fits word.Local = λ a vs d. ends (t.Keyword word.Local) a (lit≤ tt)
-  form_fits word.Read = λ a vs d. ends (t.Keyword word.Read) a (lit≤ tt)
-  form_fits word.Dim = λ a vs d. ends (t.Keyword word.Dim) a (lit≤ tt)
+  form_fits word.Local = λ a vs d known. ends (t.Keyword word.Local) a (lit≤ tt)
+  form_fits word.Read = λ a vs d known. after (t.Keyword word.Read) (reads_fit a vs d known) (lit≤ tt)
+  form_fits word.Dim = λ a vs d known. ends (t.Keyword word.Dim) a (lit≤ tt)
   form_fits _ = tt
 
   pub statement_fits : (a : List Terminal) (x : Stmt) → IsStmt a x → AllKnown prog a → Fits prog 0 12 a (statement_code prog place line x)
   statement_fits a x (s.takes c ss f b vs is d) known = subst (FitsForm c) is (form_fits c) b vs d known.1
-  statement_fits a x (s.lists c slot f b vs is d) known = subst (FitsForm c) is (form_fits c) b vs d
+  statement_fits a x (s.lists c slot f b vs is d) known = subst (FitsForm c) is (form_fits c) b vs d known.1
   statement_fits a x (s.assign _ y d) known = assignment_fits a y d known
   statement_fits a x (s.let_assign b y d) known = after (t.Keyword word.Let) (assignment_fits b y d known.1) (lit≤ tt)
   statement_fits a x (s.add b b' v y d d') known = add_fits b b' v y d d' known
@@ -283,5 +345,5 @@ module _ (prog : Prog) (place line : ℕ) where
   statement_fits a x (s.vdu b ps d) known = after (t.Keyword word.Vdu) (vdu_fits b ps d known.1) (lit≤ tt)
   statement_fits a x (s.input b ps d) known = ends (t.Keyword word.Input) b (lit≤ tt)
   statement_fits a x (s.input_line b ps d) known = ends (t.Keyword word.Input) _ (lit≤ tt)
-  statement_fits a x s.restore known = ends (t.Keyword word.Restore) [] (lit≤ tt)
-  statement_fits a x (s.restore_line n) known = ends (t.Keyword word.Restore) _ (lit≤ tt)
+  statement_fits a x s.restore known = restore_fits [] (Some 0) (omega arith)
+  statement_fits a x (s.restore_line n) known = restore_fits (t.LineRef n ∷ []) (first_behind prog.data_items (line_of_number prog n)) (first_there (line_of_number prog n))

@@ -34,6 +34,7 @@ push_of o.PushColumn = 1
 push_of (o.PushResident index) = 1
 push_of (o.PushInteger name line) = 1
 push_of (o.PushText number) = 1
+push_of (o.ReadNumber line) = 1
 push_of _ = 0
 
 abbrev pub pushes : List Op → ℕ

@@ -31,8 +31,9 @@ abbrev LeavesIn : List Height → ℕ → Op → Type 0
 LeavesIn heights pc (o.Go item) = slice_index_or heights pc empty_height ≡ empty_height
 LeavesIn heights pc (o.GoIfZero item) = slice_index_or heights (suc pc) empty_height ≡ empty_height
 LeavesIn heights pc (o.GoIfOne item) = slice_index_or heights (suc pc) empty_height ≡ one_more empty_height
-LeavesIn heights pc (o.GosubIfOne item line) = slice_index_or heights (suc pc) empty_height ≡ one_more empty_height
-LeavesIn heights pc (o.Gosub item line) = slice_index_or heights pc empty_height ≡ empty_height
+LeavesIn heights pc (o.GosubIfOne line item) = slice_index_or heights (suc pc) empty_height ≡ one_more empty_height
+LeavesIn heights pc (o.GoIfEqual item) = slice_index_or heights (suc pc) empty_height ≡ one_more empty_height
+LeavesIn heights pc (o.Gosub line item) = slice_index_or heights pc empty_height ≡ empty_height
 LeavesIn heights pc (o.Next counter line) = slice_index_or heights pc empty_height ≡ empty_height
 LeavesIn heights pc (o.NextAny line) = slice_index_or heights pc empty_height ≡ empty_height
 LeavesIn heights pc (o.Until line) = slice_index_or heights (suc pc) empty_height ≡ empty_height
@@ -44,8 +45,9 @@ later : (h : Height) (heights : List Height) (pc : ℕ) (op : Op) → LeavesIn h
 later h heights pc (o.Go item) leaves = leaves
 later h heights pc (o.GoIfZero item) leaves = leaves
 later h heights pc (o.GoIfOne item) leaves = leaves
-later h heights pc (o.GosubIfOne item line) leaves = leaves
-later h heights pc (o.Gosub item line) leaves = leaves
+later h heights pc (o.GosubIfOne line item) leaves = leaves
+later h heights pc (o.GoIfEqual item) leaves = leaves
+later h heights pc (o.Gosub line item) leaves = leaves
 later h heights pc (o.Next counter line) leaves = leaves
 later h heights pc (o.NextAny line) leaves = leaves
 later h heights pc (o.Until line) leaves = leaves
@@ -69,8 +71,9 @@ first_leaves : (op : Op) (c : List Op) (cs : List (List Op)) (h : Height) → Le
 first_leaves (o.Go item) c cs h leaves balances full = leaves
 first_leaves (o.GoIfZero item) c cs h leaves balances full = next_height (o.GoIfZero item) c cs h empty_height balances full leaves
 first_leaves (o.GoIfOne item) c cs h leaves balances full = next_height (o.GoIfOne item) c cs h (one_more empty_height) balances full leaves
-first_leaves (o.GosubIfOne item line) c cs h leaves balances full = next_height (o.GosubIfOne item line) c cs h (one_more empty_height) balances full leaves
-first_leaves (o.Gosub item line) c cs h leaves balances full = leaves
+first_leaves (o.GosubIfOne line item) c cs h leaves balances full = next_height (o.GosubIfOne line item) c cs h (one_more empty_height) balances full leaves
+first_leaves (o.GoIfEqual item) c cs h leaves balances full = next_height (o.GoIfEqual item) c cs h (one_more empty_height) balances full leaves
+first_leaves (o.Gosub line item) c cs h leaves balances full = leaves
 first_leaves (o.Next counter line) c cs h leaves balances full = leaves
 first_leaves (o.NextAny line) c cs h leaves balances full = leaves
 first_leaves (o.Until line) c cs h leaves balances full = next_height (o.Until line) c cs h empty_height balances full leaves
@@ -117,8 +120,9 @@ module _ (prog : Prog) where
   leaves pc (o.Go item) is = is
   leaves pc (o.GoIfZero item) is = is
   leaves pc (o.GoIfOne item) is = is
-  leaves pc (o.GosubIfOne item line) is = is
-  leaves pc (o.Gosub item line) is = is
+  leaves pc (o.GosubIfOne line item) is = is
+  leaves pc (o.GoIfEqual item) is = is
+  leaves pc (o.Gosub line item) is = is
   leaves pc (o.Next counter line) is = is
   leaves pc (o.NextAny line) is = is
   leaves pc (o.Until line) is = is

@@ -2,6 +2,8 @@
 use Rattle.std.proofs.Common.{◌≡◌, ℕ, zero, suc, ◌+◌, ◌-◌, List, [], ◌∷◌, ◌++◌, Option, None, Some, refl, sym, ap, ◌∙◌, append_assoc, arith}
 use Rattle.std.specs.Prelude.{ℤ, pos, negsuc, Bool, true, false, if◌then◌else◌}
 use Rattle.std.specs.Ordering.{int_eq}
+use Rattle.bas_ast.specs.declared.expressions.Any.{Any}
+use Rattle.bas_ast.specs.declared.expressions.Any.TheVariants as any
 use Rattle.bas_ast.specs.declared.expressions.BinaryOp.{BinaryOp}
 use Rattle.bas_ast.specs.declared.expressions.BinaryOp.TheVariants as operators
 use Rattle.bas_ast.specs.declared.expressions.NumExpr.{NumExpr, more_of-NumExpr as held}
@@ -11,6 +13,8 @@ use Rattle.bas_ast.specs.declared.expressions.StrExpr.TheVariants as str
 use Rattle.bas_ast.specs.declared.expressions.UnaryOp.{UnaryOp}
 use Rattle.bas_ast.specs.declared.expressions.UnaryOp.TheVariants as unary
 use Rattle.bas_ast.specs.declared.expressions.Variable.TheVariants as var
+use Rattle.bas_ast.specs.declared.lines.Head.{Head}
+use Rattle.bas_ast.specs.declared.lines.Head.TheVariants as head
 use Rattle.bas_ast.specs.declared.lines.Item.{Item}
 use Rattle.bas_ast.specs.declared.lines.Item.TheVariants as item
 use Rattle.bas_ast.specs.declared.lines.Jump.{Jump}
@@ -29,10 +33,13 @@ use Rattle.bas_ast.specs.declared.statements.Stmt.TheVariants as stmt
 use Rattle.bas_ast.specs.declared.statements.VduPart.{VduPart}
 use Rattle.bas_ast.specs.declared.statements.VduPart.TheVariants as sends
 use Rattle.bas_ast.specs.declared.targets.NumTarget.TheVariants as target
+use Rattle.bas_ast.specs.declared.targets.Target.{Target}
+use Rattle.bas_ast.specs.declared.targets.Target.TheVariants as targets
+use Rattle.bas_ast.specs.Structures.{OpensWhile, OpensIf, OpensCase}
 use Rattle.bas_ir.specs.declared.op.Op.{Op}
 use Rattle.bas_ir.specs.declared.op.Op.TheVariants as o
 use Rattle.bas_ir.specs.declared.op.Piece.TheVariants as pieces
-use Rattle.bas_ir.specs.Effects.{Effect, Goes, falls, go_if, counted_down, go_if_one, gosub_if_one, raise_if_one, round_or_on}
+use Rattle.bas_ir.specs.Effects.{Effect, Goes, falls, go_if, counted_down, go_if_one, go_if_equal, gosub_if_one, raise_if_one, round_or_on}
 use Rattle.bas_ir.specs.Places.{Pending, nothing, pushed, text_pushed}
 use Rattle.bas_store.specs.Cells.{Cell, Resident, Integer, integer_cell}
 use Rattle.bas_store.specs.Opened.{AnyNext, NextOf, EndWhile, Return}
@@ -46,11 +53,12 @@ use Rattle.bas_sem.specs.Course.{Action, ◌>>=◌, ◌>>◌, give}
 use Rattle.bas_sem.specs.Actions.{read, assign, write, wrote, or_raise, raise, raised_to, taker}
 use Rattle.bas_sem.specs.Calls.{Calls, Level, Next, GoOn, go_on}
 use Rattle.bas_sem.specs.Evaluate.{evaluate, evaluate_text}
-use Rattle.bas_sem.specs.Items.{assignment, go_to, gosub_to, back_or, nexts, next_of, step_of, while_if, goes, chosen, on_line, out_of_range, on_chosen, print, vdu, output, branch, statement, execute_item}
+use Rattle.bas_sem.specs.Items.{assignment, go_to, gosub_to, back_or, nexts, next_of, step_of, while_if, goes, chosen, on_line, out_of_range, on_chosen, print, vdu, output, reads, branch, block_branch, go_or, among_values, among_branches, case_of, met, statement, execute_item}
 use Rattle.bas_sem.specs.Loops.{opens, closing, until, next}
 use Rattle.bas_sem.specs.Operators.{of_one, of_two}
-use Rattle.bas_sem.specs.Places.{Row, else_place, on_else, after_endwhile, line_place}
-use Rattle.ir_build.specs.Code.{unary_code, read_op, store_op, expr_code, text_code, assignment_code, go_op, gosub_op, counter_of, step_code, for_code, nexts_code, next_code, flow_code, choice_op, choices_code, otherwise_op, print_code, vdu_code, output_code, statement_code, item_code, or_jump, row_code, flat_code}
+use Rattle.bas_sem.specs.Data.{data_texts, next_number, restored, restore}
+use Rattle.bas_sem.specs.Places.{Row, Branch, else_place, on_else, after_end, branches_of, line_place}
+use Rattle.ir_build.specs.Code.{unary_code, read_op, store_op, expr_code, text_code, assignment_code, go_op, gosub_op, counter_of, step_code, for_code, nexts_code, next_code, flow_code, choice_op, choices_code, otherwise_op, print_code, vdu_code, output_code, reads_code, restore_op, statement_code, values_code, branches_code, case_code, head_code, item_code, or_jump, row_code, flat_code}
 use Rattle.ir_build.proofs.Bind.{bind_assoc, bind_same, bind_then}
 use Rattle.ir_build.proofs.Denote.{calls_at, carry, den}
 
@@ -122,6 +130,11 @@ module _ (prog : Prog) (level : Level) (next : ℕ) where
       → does (expr_code prog line x ++ ops) nothing s ≡ ((value_of line x >>= f) >>= onwards) s
   ends_den line x ops f s same =
       expr_den line x ops nothing s ∙ bind_then (value_of line x) f onwards (λ v. does ops (pushed v nothing)) s same
+
+  -- a store, and what follows it
+  stored_then : (cell : Cell) (v : ℤ) (ops : List Op) (s : State) → does (store_op cell ∷ ops) (pushed v nothing) s ≡ (assign cell v >> does ops nothing) s
+  stored_then (Resident index) v ops s = refl
+  stored_then (Integer name) v ops s = refl
 
   store_den : (cell : Cell) (v : ℤ) (t : State) → does (store_op cell ∷ []) (pushed v nothing) t ≡ (assign cell v >>= onwards) t
   store_den (Resident index) v t = refl
@@ -199,16 +212,32 @@ module _ (prog : Prog) (level : Level) (next : ℕ) where
   output_den line writes.Cls s = refl
 
   -- an error ends the item
-  raised_den : (h : Option Handler) (error : ℤ) (text : List ℕ) (line : ℕ) (then_do : Effect → Action Next) (s : State)
+  raised_den : {A B : Type 0} (h : Option Handler) (error : ℤ) (text : List ℕ) (line : ℕ) (then_do : A → Action B) (s : State)
       → (raised_to h error text line >>= then_do) s ≡ raised_to h error text line s
   raised_den None error text line then_do s = refl
   raised_den (Some h) error text line then_do s = refl
 
-  pub raise_then : (error line : ℕ) (then_do : Effect → Action Next) (s : State) → (raise error line >>= then_do) s ≡ raise error line s
+  pub raise_then : {A B : Type 0} (error line : ℕ) (then_do : A → Action B) (s : State) → (raise error line >>= then_do) s ≡ raise error line s
   raise_then error line then_do s = raised_den (taker (int_eq (pos error) (pos 0)) s.handler) (pos error) (error_text error) line then_do s
 
   raise_den : (error line : ℕ) (ops : List Op) (s : State) → does (o.Raise error line ∷ ops) nothing s ≡ raise error line s
   raise_den error line ops s = raise_then error line (carries (does ops)) s
+
+  -- ---- READ and RESTORE
+
+  reads_den : (line : ℕ) (variables : List Target) (s : State) → does (reads_code prog line variables) nothing s ≡ (reads prog line variables >>= onwards) s
+  reads_den line [] s = refl
+  reads_den line (targets.Number (target.Variable (var.Simple name)) ∷ others) s =
+      pushes (next_number (data_texts prog) line) (store_op (integer_cell prog.names name) ∷ reads_code prog line others) nothing s
+      ∙ bind_then (next_number (data_texts prog) line) (λ v. assign (integer_cell prog.names name) v >> reads prog line others) onwards
+      (λ v. does (store_op (integer_cell prog.names name) ∷ reads_code prog line others) (pushed v nothing)) s
+      (λ v t. stored_then (integer_cell prog.names name) v (reads_code prog line others) t
+      ∙ bind_then (assign (integer_cell prog.names name) v) (λ _. reads prog line others) onwards (λ _. does (reads_code prog line others) nothing) t (λ _ u. reads_den line others u))
+  reads_den line (_ ∷ others) s = refl
+
+  restore_den : (to : Option ℕ) (line : ℕ) (s : State) → does (restore_op to line ∷ []) nothing s ≡ (restore to line >>= onwards) s
+  restore_den None line s = raise_den no_such_line line [] s ∙ sym (raise_then no_such_line line onwards s)
+  restore_den (Some place) line s = refl
 
   jump_den : (ops : List Op) (s : State) → does (or_jump next ops) nothing s ≡ does ops nothing s
   jump_den [] s = refl
@@ -261,10 +290,6 @@ module _ (prog : Prog) (level : Level) (place : ℕ) where
   next_den line (name ∷ names) s = nexts_den line (name ∷ names) s
 
   -- FOR
-  start_den : (cell : Cell) (v : ℤ) (ops : List Op) (s : State) → runs (store_op cell ∷ ops) (pushed v nothing) s ≡ (assign cell v >> runs ops nothing) s
-  start_den (Resident index) v ops s = refl
-  start_den (Integer name) v ops s = refl
-
   step_den : (line : ℕ) (z : Option NumExpr) (ops : List Op) (p : Pending) (f : ℤ → Action Next) (s : State) → ((v : ℤ) (t : State) → runs ops (pushed v p) t ≡ f v t)
       → runs (step_code prog line z ++ ops) p s ≡ (step_of prog calls_here line z >>= f) s
   step_den line None ops p f s same = same (pos 1) s
@@ -281,7 +306,7 @@ module _ (prog : Prog) (level : Level) (place : ℕ) where
       >>= (λ step. opens level.depth line (For cell limit step) (place + 1) >> go_on (place + 1)))))) s
   for_den line cell x y z s =
       valued_den line x (store_op cell ∷ limit_code) nothing (λ start. assign cell start >> after_start) s
-      (λ v t. start_den cell v limit_code t ∙ bind_same (assign cell v) (λ _. runs limit_code nothing) (λ _. after_start) t (λ _. limit_den))
+      (λ v t. stored_then prog level (place + 1) cell v limit_code t ∙ bind_same (assign cell v) (λ _. runs limit_code nothing) (λ _. after_start) t (λ _. limit_den))
     where
       step_part : List Op
       step_part = step_code prog line z ++ o.OpenFor (counter_of cell) line ∷ []
@@ -302,7 +327,7 @@ module _ (prog : Prog) (level : Level) (place : ℕ) where
           (λ step. opens level.depth line (For cell limit step) (place + 1) >> go_on (place + 1)) u (λ step. for_opens line cell limit step))
 
   while_den : (zero : Bool) (line : ℕ) (s : State)
-      → carries prog level (place + 1) (runs (o.OpenWhile line ∷ [])) (go_if zero (after_endwhile prog place) nothing) s ≡ while_if zero prog level place line s
+      → carries prog level (place + 1) (runs (o.OpenWhile line ∷ [])) (go_if zero (after_end prog OpensWhile place) nothing) s ≡ while_if zero prog level place line s
   while_den true line s = refl
   while_den false line s = refl
 
@@ -317,7 +342,7 @@ module _ (prog : Prog) (level : Level) (place : ℕ) where
       valued_den line x (o.Until line ∷ []) nothing (λ v. until level.depth line v >>= back_or (go_on (place + 1))) s
       (λ v t. round_den (until level.depth line v) [] (go_on (place + 1)) t (λ u. refl))
   flow_den line (flow.While x) s =
-      valued_den line x (o.GoIfZero (after_endwhile prog place) ∷ o.OpenWhile line ∷ []) nothing (λ v. while_if (int_eq v (pos 0)) prog level place line) s
+      valued_den line x (o.GoIfZero (after_end prog OpensWhile place) ∷ o.OpenWhile line ∷ []) nothing (λ v. while_if (int_eq v (pos 0)) prog level place line) s
       (λ v t. while_den (int_eq v (pos 0)) line t)
   flow_den line flow.EndWhile s =
       bind_assoc (closing level.depth line EndWhile) (λ after. give (Goes (GoOn (after - 1)))) (carries prog level (place + 1) (runs [])) s
@@ -383,6 +408,8 @@ module _ (prog : Prog) (level : Level) (place : ℕ) where
   statement_den line (stmt.Assign a) s = assignment_den prog level (place + 1) line a s
   statement_den line (stmt.Flow w) s = flow_den line w s
   statement_den line (stmt.Output w) s = output_den prog level (place + 1) line w s
+  statement_den line (stmt.Read variables) s = reads_den prog level (place + 1) line variables s
+  statement_den line (stmt.Restore to) s = restore_den prog level (place + 1) (restored prog to) line s
   statement_den line _ s = refl
 
   -- IF: the jump is taken where the number is 0
@@ -391,16 +418,68 @@ module _ (prog : Prog) (level : Level) (place : ℕ) where
   branch_den true item s = refl
   branch_den false item s = refl
 
+  -- ---- CASE
+
+  -- an operation that goes on at a place where two numbers are equal, with that of CASE below
+  equal_den : (equal : Bool) (v x : ℤ) (after : ℕ) (ops : List Op) (later : Action Next) (s : State) → ((t : State) → runs ops (pushed x nothing) t ≡ later t)
+      → carries prog level (place + 1) (runs ops) (go_if_equal equal after x nothing) s ≡ go_or equal after later s
+  equal_den true v x after ops later s same = refl
+  equal_den false v x after ops later s same = same s
+
+  -- the values of a WHEN, and what follows where none is equal
+  values_den : (line after : ℕ) (values : List Any) (x : ℤ) (ops : List Op) (later : Action Next) (s : State) → ((t : State) → runs ops (pushed x nothing) t ≡ later t)
+      → runs (values_code prog line after values ++ ops) (pushed x nothing) s ≡ among_values prog calls_here x line after values later s
+  values_den line after [] x ops later s same = same s
+  values_den line after (any.Number y ∷ values) x ops later s same =
+      ap (λ c. runs c (pushed x nothing) s) (append_assoc (expr_code prog line y) (o.GoIfEqual after ∷ values_code prog line after values) ops)
+      ∙ valued_den line y (o.GoIfEqual after ∷ (values_code prog line after values ++ ops)) (pushed x nothing)
+      (λ v. go_or (int_eq v x) after (among_values prog calls_here x line after values later)) s
+      (λ v t. equal_den (int_eq v x) v x after (values_code prog line after values ++ ops) (among_values prog calls_here x line after values later) t
+      (λ u. values_den line after values x ops later u same))
+  values_den line after (any.Text y ∷ values) x ops later s same = refl
+
+  -- where CASE goes on without an equal value
+  abbrev last_code : ℕ → List Op
+  last_code last = o.Discard ∷ o.Go last ∷ []
+
+  branches_den : (branches : List Branch) (x : ℤ) (last : ℕ) (s : State)
+      → runs (branches_code prog branches ++ last_code last) (pushed x nothing) s ≡ among_branches prog calls_here x last branches s
+  branches_den [] x last s = refl
+  branches_den (b ∷ branches) x last s =
+      ap (λ c. runs c (pushed x nothing) s) (append_assoc (values_code prog b.line b.after b.values) (branches_code prog branches) (last_code last))
+      ∙ values_den b.line b.after b.values x (branches_code prog branches ++ last_code last) (among_branches prog calls_here x last branches) s (branches_den branches x last)
+
+  case_den : (line : ℕ) (x : Any) (s : State) → runs (case_code prog place line x) nothing s ≡ case_of prog calls_here place line x s
+  case_den line (any.Number x) s =
+      valued_den line x (branches_code prog (branches_of prog place) ++ last_code (after_end prog OpensCase place)) nothing
+      (λ v. among_branches prog calls_here v (after_end prog OpensCase place) (branches_of prog place)) s
+      (λ v t. branches_den (branches_of prog place) v (after_end prog OpensCase place) t)
+  case_den line (any.Text x) s = refl
+
+  head_den : (h : Head) (s : State) → runs (head_code prog place h) nothing s ≡ met prog place h s
+  head_den head.BlockElse s = refl
+  head_den head.EndIf s = refl
+  head_den (head.When values) s = refl
+  head_den head.Otherwise s = refl
+  head_den head.EndCase s = refl
+  head_den _ s = refl
+
   pub item_den : (line : ℕ) (i : Item) (s : State) → runs (item_code prog place line i) nothing s ≡ execute_item prog calls_here level place line i s
+  item_den line (item.Head h) s = head_den h s
   item_den line (item.Stmt x) s = statement_den line x s
   item_den line (item.If x) s =
       valued_den line x (o.GoIfZero (else_place prog place) ∷ []) nothing (λ v. go_on (branch prog place v)) s
       (λ v t. branch_den (int_eq v (pos 0)) (else_place prog place) t)
+  item_den line (item.BlockIf x) s =
+      valued_den line x (o.GoIfZero (after_end prog OpensIf place) ∷ []) nothing (λ v. go_on (block_branch prog place v)) s
+      (λ v t. branch_den (int_eq v (pos 0)) (after_end prog OpensIf place) t)
+  item_den line (item.Case x) s = case_den line x s
   item_den line (item.On x jump numbers) s =
       valued_den line x (choices line jump numbers) nothing
       (λ v. on_chosen prog level place line jump (chosen v numbers)) s (λ v t. choices_den line jump numbers v t)
   item_den line item.Repeat s = refl
   item_den line item.Else s = refl
+  item_den line (item.Data n) s = refl
   item_den line item.Remark s = refl
   item_den line _ s = refl
 

@@ -165,8 +165,9 @@ module _ (prog : Prog) where
   reached_of (o.Go item) up_to = subst (λ n. item ≤ n) (sym all_starts) up_to
   reached_of (o.GoIfZero item) up_to = subst (λ n. item ≤ n) (sym all_starts) up_to
   reached_of (o.GoIfOne item) up_to = subst (λ n. item ≤ n) (sym all_starts) up_to
-  reached_of (o.GosubIfOne item line) up_to = subst (λ n. item ≤ n) (sym all_starts) up_to
-  reached_of (o.Gosub item line) up_to = subst (λ n. item ≤ n) (sym all_starts) up_to
+  reached_of (o.GoIfEqual item) up_to = subst (λ n. item ≤ n) (sym all_starts) up_to
+  reached_of (o.GosubIfOne line item) up_to = subst (λ n. item ≤ n) (sym all_starts) up_to
+  reached_of (o.Gosub line item) up_to = subst (λ n. item ≤ n) (sym all_starts) up_to
   reached_of (o.HandleAll item) up_to = subst (λ n. item ≤ n) (sym all_starts) up_to
   reached_of (o.HandleHere item) up_to = subst (λ n. item ≤ n) (sym all_starts) up_to
   reached_of _ up_to = tt

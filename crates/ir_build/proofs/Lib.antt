@@ -1,6 +1,7 @@
 pub mod Equations
 pub mod TableSteps
-pub mod WhileEnds
+pub mod EndTables
+pub mod CaseSteps
 mod Bind
 pub mod Denote
 pub mod ItemDenotes
@@ -18,6 +19,8 @@ mod InItems
 mod Residents
 pub mod Coded
 mod Fits
+mod PendingBounds
+mod FitCases
 mod FitExpressions
 mod FitStatements
 mod FitLines

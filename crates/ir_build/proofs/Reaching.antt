@@ -1,8 +1,10 @@
 -- Where the operations of a program's code lead is an item, or the end.
 use Rattle.std.proofs.Common.{◌≡◌, ℕ, zero, suc, ◌+◌, ◌-◌, ◌<◌, ◌≤◌, List, [], ◌∷◌, ◌++◌, Option, None, Some, refl, ap, subst, ◌∙◌, length, drop, map, arith, length-append, length-drop, zero-add}
-use Rattle.std.specs.Prelude.{Bool, true, false, flat_map, nat_lt, slice_get, ◌==◌, if◌then◌else◌}
+use Rattle.std.specs.Prelude.{Bool, true, false, flat_map, nat_lt, slice_get, ◌==◌, ◌&&◌, if◌then◌else◌}
 use Rattle.std.proofs.lemmas.Bool.{ltb-true, ltb-false}
 use Rattle.std.proofs.Math.ListN.{length-map}
+use Rattle.bas_ast.specs.declared.expressions.Any.{Any}
+use Rattle.bas_ast.specs.declared.expressions.Any.TheVariants as any
 use Rattle.bas_ast.specs.declared.expressions.NumExpr.{NumExpr, more_of-NumExpr as held}
 use Rattle.bas_ast.specs.declared.expressions.NumExpr.TheVariants as num
 use Rattle.bas_ast.specs.declared.expressions.StrExpr.{StrExpr}
@@ -10,12 +12,14 @@ use Rattle.bas_ast.specs.declared.expressions.StrExpr.TheVariants as str
 use Rattle.bas_ast.specs.declared.expressions.UnaryOp.{UnaryOp}
 use Rattle.bas_ast.specs.declared.expressions.UnaryOp.TheVariants as unary
 use Rattle.bas_ast.specs.declared.expressions.Variable.TheVariants as var
+use Rattle.bas_ast.specs.declared.lines.Head.{Head}
+use Rattle.bas_ast.specs.declared.lines.Head.TheVariants as head
 use Rattle.bas_ast.specs.declared.lines.Item.{Item}
 use Rattle.bas_ast.specs.declared.lines.Item.TheVariants as item
 use Rattle.bas_ast.specs.declared.lines.Jump.{Jump}
 use Rattle.bas_ast.specs.declared.lines.Jump.TheVariants as jumps
 use Rattle.bas_ast.specs.declared.program.Prog.{Prog}
-use Rattle.bas_ast.specs.Structures.{bound}
+use Rattle.bas_ast.specs.Structures.{Bound, OpensWhile, OpensIf, DividesIf, OpensCase, DividesCase, Family, while_family, if_family, case_family, ends_if, bound}
 use Rattle.bas_ast.specs.declared.program.ProgLine.{ProgLine}
 use Rattle.bas_ast.specs.declared.statements.Assignment.{Assignment}
 use Rattle.bas_ast.specs.declared.statements.Assignment.TheVariants as assigns
@@ -30,12 +34,15 @@ use Rattle.bas_ast.specs.declared.statements.Stmt.TheVariants as stmt
 use Rattle.bas_ast.specs.declared.statements.VduPart.{VduPart}
 use Rattle.bas_ast.specs.declared.statements.VduPart.TheVariants as sends
 use Rattle.bas_ast.specs.declared.targets.NumTarget.TheVariants as target
+use Rattle.bas_ast.specs.declared.targets.Target.{Target}
+use Rattle.bas_ast.specs.declared.targets.Target.TheVariants as targets
 use Rattle.bas_ir.specs.declared.op.Op.{Op}
 use Rattle.bas_ir.specs.declared.op.Op.TheVariants as o
 use Rattle.bas_ir.specs.declared.op.Piece.TheVariants as pieces
 use Rattle.bas_store.specs.Cells.{Cell, Resident, Integer, integer_cell}
-use Rattle.bas_sem.specs.Places.{Row, rows, rest_among, rest_of_line, after_else, else_place, found_else, on_else, ends_while, depth_after, while_end, after_endwhile, line_among, line_place}
-use Rattle.ir_build.specs.Code.{unary_code, read_op, store_op, expr_code, text_code, assignment_code, go_op, gosub_op, counter_of, step_code, nexts_code, next_code, flow_code, choice_op, choices_code, otherwise_op, print_code, vdu_code, output_code, statement_code, item_code, or_jump, row_code, codes_from, codes, joined}
+use Rattle.bas_sem.specs.Data.{restored}
+use Rattle.bas_sem.specs.Places.{Row, Branch, Division, Divides, Ends, Neither, rows, rest_among, rest_of_line, after_else, else_place, found_else, on_else, depth_after, end_among, ends_search, end_of, after_end, division, with_division, branches_among, branches_of, line_among, line_place}
+use Rattle.ir_build.specs.Code.{unary_code, read_op, store_op, expr_code, text_code, assignment_code, go_op, gosub_op, counter_of, step_code, nexts_code, next_code, flow_code, choice_op, choices_code, otherwise_op, print_code, vdu_code, output_code, reads_code, restore_op, statement_code, values_code, branches_code, case_code, head_code, item_code, or_jump, row_code, codes_from, codes, joined}
 
 abbrev IsNot : {A : Type 0} → Option A → Type 0
 IsNot None = Unit {0}
@@ -99,11 +106,36 @@ one_or_other : (b : Bool) (n one other : ℕ) → one ≤ n → other ≤ n → 
 one_or_other true n one other first second = first
 one_or_other false n one other first second = second
 
-while_up_to : (depth : ℕ) (rs : List Row) (place : ℕ) → while_end depth rs place ≤ place + length rs
-while_up_to depth [] place = omega arith
-while_up_to depth (r ∷ rs) place =
-    one_or_other (ends_while (bound r.item) depth) (place + suc (length rs)) (place + 1) (while_end (depth_after (bound r.item) depth) rs (place + 1))
-    (omega arith) (omega (arith, while_up_to (depth_after (bound r.item) depth) rs (place + 1)))
+among_up_to : (family : Family) (is_end : Item → Bool) (depth : ℕ) (rs : List Row) (place : ℕ) → end_among family is_end depth rs place ≤ place + length rs
+among_up_to family is_end depth [] place = omega arith
+among_up_to family is_end depth (r ∷ rs) place =
+    one_or_other (depth == 0 && is_end r.item) (place + suc (length rs)) (place + 1) (end_among family is_end (depth_after family (bound r.item) depth) rs (place + 1))
+    (omega arith) (omega (arith, among_up_to family is_end (depth_after family (bound r.item) depth) rs (place + 1)))
+
+-- where a structure ends, among the rows after an item
+end_up_to : (b : Bound) (rs : List Row) (place : ℕ) → end_of b rs place ≤ place + length rs
+end_up_to OpensWhile rs place = among_up_to while_family (λ x. while_family.closes (bound x)) 0 rs place
+end_up_to OpensIf rs place = among_up_to if_family (λ x. ends_if (bound x)) 0 rs place
+end_up_to DividesIf rs place = among_up_to if_family (λ x. if_family.closes (bound x)) 0 rs place
+end_up_to OpensCase rs place = among_up_to case_family ends_search 0 rs place
+end_up_to DividesCase rs place = among_up_to case_family (λ x. case_family.closes (bound x)) 0 rs place
+end_up_to _ rs place = omega arith
+
+-- the places after these WHENs are not past this one
+abbrev AllUpTo : ℕ → List Branch → Type 0
+AllUpTo n [] = Unit {0}
+AllUpTo n (b ∷ bs) = (b.after ≤ n) × AllUpTo n bs
+
+division_up_to : (n : ℕ) (d : Division) (line after : ℕ) (later : List Branch) → after ≤ n → AllUpTo n later → AllUpTo n (with_division d line after later)
+division_up_to n (Divides values) line after later here there = (here, there)
+division_up_to n Ends line after later here there = tt
+division_up_to n Neither line after later here there = there
+
+branches_up_to : (n depth : ℕ) (rs : List Row) (place : ℕ) → place + length rs ≤ n → AllUpTo n (branches_among depth rs place)
+branches_up_to n depth [] place few = tt
+branches_up_to n depth (r ∷ rs) place few =
+    division_up_to n (division depth r.item) r.line (place + 1) (branches_among (depth_after case_family (bound r.item) depth) rs (place + 1)) (omega (arith, few))
+    (branches_up_to n (depth_after case_family (bound r.item) depth) rs (place + 1) (omega (arith, few)))
 
 module _ (prog : Prog) where
   abbrev pub total : ℕ
@@ -113,8 +145,9 @@ module _ (prog : Prog) where
   Reaches (o.Go item) = item ≤ total
   Reaches (o.GoIfZero item) = item ≤ total
   Reaches (o.GoIfOne item) = item ≤ total
-  Reaches (o.GosubIfOne item line) = item ≤ total
-  Reaches (o.Gosub item line) = item ≤ total
+  Reaches (o.GoIfEqual item) = item ≤ total
+  Reaches (o.GosubIfOne line item) = item ≤ total
+  Reaches (o.Gosub line item) = item ≤ total
   Reaches (o.HandleAll item) = item ≤ total
   Reaches (o.HandleHere item) = item ≤ total
   Reaches _ = Unit {0}
@@ -126,6 +159,9 @@ module _ (prog : Prog) where
   append_reach : (xs ys : List Op) → AllReach xs → AllReach ys → AllReach (xs ++ ys)
   append_reach [] ys a b = b
   append_reach (x ∷ xs) ys a b = (a.0, append_reach xs ys a.1 b)
+
+  after_up_to : (b : Bound) (place : ℕ) → place < total → after_end prog b place ≤ total
+  after_up_to b place few = omega (arith, few, end_up_to b (drop (place + 1) (rows prog)) (place + 1), length-drop (place + 1) (rows prog))
 
   module _ (line : ℕ) where
     read_reach : (cell : Cell) → Reaches (read_op line cell)
@@ -232,17 +268,27 @@ module _ (prog : Prog) where
     flow_reach place (flow.Next names) few = next_reach names
     flow_reach place (flow.Until x) few = then_reach x (o.Until line) [] tt tt
     flow_reach place (flow.While x) few =
-        then_reach x (o.GoIfZero (after_endwhile prog place)) (o.OpenWhile line ∷ [])
-        (omega (arith, few, while_up_to 0 (drop (place + 1) (rows prog)) (place + 1), length-drop (place + 1) (rows prog))) (tt, tt)
+        then_reach x (o.GoIfZero (after_end prog OpensWhile place)) (o.OpenWhile line ∷ []) (after_up_to OpensWhile place few) (tt, tt)
     flow_reach place flow.EndWhile few = (tt, tt)
     flow_reach place flow.End few = (tt, tt)
     flow_reach place flow.Stop few = (tt, tt)
     flow_reach place flow.Quit few = (tt, tt)
 
+    restore_reach : (to : Option ℕ) → AllReach (restore_op to line ∷ [])
+    restore_reach None = (tt, tt)
+    restore_reach (Some item) = (tt, tt)
+
+    reads_reach : (variables : List Target) → AllReach (reads_code prog line variables)
+    reads_reach [] = tt
+    reads_reach (targets.Number (target.Variable (var.Simple name)) ∷ others) = (tt, (store_reach (integer_cell prog.names name), reads_reach others))
+    reads_reach (_ ∷ others) = (tt, tt)
+
     statement_reach : (place : ℕ) (s : Stmt) → place < total → AllReach (statement_code prog place line s)
     statement_reach place (stmt.Assign a) few = assignment_reach a
     statement_reach place (stmt.Flow w) few = flow_reach place w few
     statement_reach place (stmt.Output w) few = output_reach w
+    statement_reach place (stmt.Read variables) few = reads_reach variables
+    statement_reach place (stmt.Restore to) few = restore_reach (restored prog to)
     statement_reach place _ few = (tt, tt)
 
     choice_reach : (jump : Jump) (to : Option ℕ) → UpTo total to → Reaches (choice_op jump to line)
@@ -263,17 +309,50 @@ module _ (prog : Prog) where
         UpTo-more (place + 1 + length (rest_of_line prog place)) total (on_else prog place) (rest_up_to prog.lines place few)
         (found_up_to (rest_of_line prog place) (place + 1))
 
+    values_reach : (after : ℕ) (values : List Any) → after ≤ total → AllReach (values_code prog line after values)
+    values_reach after [] up_to = tt
+    values_reach after (any.Number x ∷ values) up_to = then_reach x (o.GoIfEqual after) (values_code prog line after values) up_to (values_reach after values up_to)
+    values_reach after (any.Text x ∷ values) up_to = (tt, tt)
+
+    head_reach : (place : ℕ) (h : Head) → place < total → AllReach (head_code prog place h)
+    head_reach place head.BlockElse few = (after_up_to DividesIf place few, tt)
+    head_reach place head.EndIf few = tt
+    head_reach place (head.When values) few = (after_up_to DividesCase place few, tt)
+    head_reach place head.Otherwise few = (after_up_to DividesCase place few, tt)
+    head_reach place head.EndCase few = tt
+    head_reach place _ few = (tt, tt)
+
+  branches_reach : (branches : List Branch) → AllUpTo total branches → AllReach (branches_code prog branches)
+  branches_reach [] up_to = tt
+  branches_reach (b ∷ branches) up_to =
+      append_reach (values_code prog b.line b.after b.values) (branches_code prog branches) (values_reach b.line b.after b.values up_to.0) (branches_reach branches up_to.1)
+
+  module _ (line : ℕ) where
+    case_reach : (place : ℕ) (x : Any) → place < total → AllReach (case_code prog place line x)
+    case_reach place (any.Number x) few =
+        let last : List Op = o.Discard ∷ o.Go (after_end prog OpensCase place) ∷ [] in
+        let up_to : AllUpTo total (branches_of prog place) =
+        branches_up_to total 0 (drop (place + 1) (rows prog)) (place + 1) (omega (arith, few, length-drop (place + 1) (rows prog))) in
+        append_reach (expr_code prog line x) (branches_code prog (branches_of prog place) ++ last) (expr_reach line x)
+        (append_reach (branches_code prog (branches_of prog place)) last (branches_reach (branches_of prog place) up_to) (tt, (after_up_to OpensCase place few, tt)))
+    case_reach place (any.Text x) few = (tt, tt)
+
     item_reach : (place : ℕ) (i : Item) → place < total → AllReach (item_code prog place line i)
-    item_reach place (item.Stmt s) few = statement_reach place s few
+    item_reach place (item.Head h) few = head_reach line place h few
+    item_reach place (item.Stmt s) few = statement_reach line place s few
     item_reach place (item.If x) few =
-        then_reach x (o.GoIfZero (else_place prog place)) []
+        then_reach line x (o.GoIfZero (else_place prog place)) []
         (omega (arith, else_up_to (rest_of_line prog place) (place + 1), rest_up_to prog.lines place few)) tt
+    item_reach place (item.BlockIf x) few = then_reach line x (o.GoIfZero (after_end prog OpensIf place)) [] (after_up_to OpensIf place few) tt
+    item_reach place (item.Case x) few = case_reach place x few
     item_reach place (item.On x jump numbers) few =
         let otherwise : List Op = o.Discard ∷ otherwise_op (on_else prog place) line ∷ [] in
-        append_reach (expr_code prog line x) (choices_code prog line jump numbers ++ otherwise) (expr_reach x)
-        (append_reach (choices_code prog line jump numbers) otherwise (choices_reach jump numbers) (tt, (otherwise_reach (on_else prog place) (on_else_up_to place few), tt)))
+        append_reach (expr_code prog line x) (choices_code prog line jump numbers ++ otherwise) (expr_reach line x)
+        (append_reach (choices_code prog line jump numbers) otherwise (choices_reach line jump numbers)
+        (tt, (otherwise_reach line (on_else prog place) (on_else_up_to line place few), tt)))
     item_reach place item.Repeat few = (tt, tt)
     item_reach place item.Else few = (rest_up_to prog.lines place few, tt)
+    item_reach place (item.Data n) few = tt
     item_reach place item.Remark few = tt
     item_reach place _ few = (tt, tt)
 

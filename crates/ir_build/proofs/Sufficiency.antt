@@ -1,6 +1,8 @@
 -- No operation of a program's code lacks a value, and nothing is pending after an item.
 use Rattle.std.proofs.Common.{◌≡◌, ℕ, ◌+◌, List, [], ◌∷◌, ◌++◌, Option, None, Some, refl, sym, subst, ◌∙◌, ap, append_assoc}
 use Rattle.std.specs.Prelude.{Bool, true, false}
+use Rattle.bas_ast.specs.declared.expressions.Any.{Any}
+use Rattle.bas_ast.specs.declared.expressions.Any.TheVariants as any
 use Rattle.bas_ast.specs.declared.expressions.BinaryOp.{BinaryOp}
 use Rattle.bas_ast.specs.declared.expressions.BinaryOp.TheVariants as operators
 use Rattle.bas_ast.specs.declared.expressions.NumExpr.{NumExpr, more_of-NumExpr as held}
@@ -10,6 +12,8 @@ use Rattle.bas_ast.specs.declared.expressions.StrExpr.TheVariants as str
 use Rattle.bas_ast.specs.declared.expressions.UnaryOp.{UnaryOp}
 use Rattle.bas_ast.specs.declared.expressions.UnaryOp.TheVariants as unary
 use Rattle.bas_ast.specs.declared.expressions.Variable.TheVariants as var
+use Rattle.bas_ast.specs.declared.lines.Head.{Head}
+use Rattle.bas_ast.specs.declared.lines.Head.TheVariants as head
 use Rattle.bas_ast.specs.declared.lines.Item.{Item}
 use Rattle.bas_ast.specs.declared.lines.Item.TheVariants as item
 use Rattle.bas_ast.specs.declared.lines.Jump.{Jump}
@@ -28,14 +32,18 @@ use Rattle.bas_ast.specs.declared.statements.Stmt.TheVariants as stmt
 use Rattle.bas_ast.specs.declared.statements.VduPart.{VduPart}
 use Rattle.bas_ast.specs.declared.statements.VduPart.TheVariants as sends
 use Rattle.bas_ast.specs.declared.targets.NumTarget.TheVariants as target
+use Rattle.bas_ast.specs.declared.targets.Target.{Target}
+use Rattle.bas_ast.specs.declared.targets.Target.TheVariants as targets
+use Rattle.bas_ast.specs.Structures.{OpensWhile, OpensIf, OpensCase}
 use Rattle.bas_ir.specs.declared.ir.Height.{Height}
 use Rattle.bas_ir.specs.declared.op.Op.{Op}
 use Rattle.bas_ir.specs.declared.op.Op.TheVariants as o
 use Rattle.bas_ir.specs.declared.op.Piece.TheVariants as pieces
 use Rattle.bas_ir.specs.Heights.{Suffices, one_more, empty_height, height_after}
 use Rattle.bas_store.specs.Cells.{Cell, Resident, Integer, integer_cell}
-use Rattle.bas_sem.specs.Places.{Row, line_place, else_place, on_else, after_endwhile}
-use Rattle.ir_build.specs.Code.{unary_code, read_op, store_op, expr_code, text_code, assignment_code, go_op, gosub_op, counter_of, step_code, nexts_code, next_code, flow_code, choice_op, choices_code, otherwise_op, print_code, vdu_code, output_code, statement_code, item_code, or_jump, row_code}
+use Rattle.bas_sem.specs.Data.{restored}
+use Rattle.bas_sem.specs.Places.{Row, Branch, line_place, else_place, on_else, after_end, branches_of}
+use Rattle.ir_build.specs.Code.{unary_code, read_op, store_op, expr_code, text_code, assignment_code, go_op, gosub_op, counter_of, step_code, nexts_code, next_code, flow_code, choice_op, choices_code, otherwise_op, print_code, vdu_code, output_code, reads_code, restore_op, statement_code, values_code, branches_code, case_code, head_code, item_code, or_jump, row_code}
 
 -- the operations find what they take, after this height
 abbrev pub Enough : List Op → Height → Type 0
@@ -46,8 +54,9 @@ abbrev pub LeavesAt : Op → Height → Type 0
 LeavesAt (o.Go item) h = h ≡ empty_height
 LeavesAt (o.GoIfZero item) h = height_after [] (o.GoIfZero item) h ≡ Some empty_height
 LeavesAt (o.GoIfOne item) h = height_after [] (o.GoIfOne item) h ≡ Some (one_more empty_height)
-LeavesAt (o.GosubIfOne item line) h = height_after [] (o.GosubIfOne item line) h ≡ Some (one_more empty_height)
-LeavesAt (o.Gosub item line) h = h ≡ empty_height
+LeavesAt (o.GosubIfOne line item) h = height_after [] (o.GosubIfOne line item) h ≡ Some (one_more empty_height)
+LeavesAt (o.GoIfEqual item) h = height_after [] (o.GoIfEqual item) h ≡ Some (one_more empty_height)
+LeavesAt (o.Gosub line item) h = h ≡ empty_height
 LeavesAt (o.Next counter line) h = h ≡ empty_height
 LeavesAt (o.NextAny line) h = h ≡ empty_height
 LeavesAt (o.Until line) h = height_after [] (o.Until line) h ≡ Some empty_height
@@ -156,7 +165,7 @@ module _ (prog : Prog) (line : ℕ) where
       (expr_balances y (step_code prog line z ++ opens) empty_height (step_balances z opens (one_more empty_height) (tt, (refl, refl)))))
   flow_balances place (flow.Next names) = next_balances names
   flow_balances place (flow.Until x) = expr_balances x (o.Until line ∷ []) empty_height (refl, (refl, refl))
-  flow_balances place (flow.While x) = expr_balances x (o.GoIfZero (after_endwhile prog place) ∷ o.OpenWhile line ∷ []) empty_height (refl, (tt, (refl, refl)))
+  flow_balances place (flow.While x) = expr_balances x (o.GoIfZero (after_end prog OpensWhile place) ∷ o.OpenWhile line ∷ []) empty_height (refl, (tt, (refl, refl)))
   flow_balances place flow.EndWhile = (refl, (refl, refl))
   flow_balances place flow.End = (tt, (refl, refl))
   flow_balances place flow.Stop = (tt, (refl, refl))
@@ -190,10 +199,22 @@ module _ (prog : Prog) (line : ℕ) where
   output_balances (writes.Colour x) = expr_balances x (o.Write pieces.Colour ∷ []) empty_height (tt, (refl, refl))
   output_balances writes.Cls = (tt, (refl, refl))
 
+  restore_balances : (to : Option ℕ) → Whole (restore_op to line ∷ [])
+  restore_balances None = (tt, (refl, refl))
+  restore_balances (Some place) = (tt, (refl, refl))
+
+  reads_balance : (variables : List Target) → Whole (reads_code prog line variables)
+  reads_balance [] = (refl, refl)
+  reads_balance (targets.Number (target.Variable (var.Simple name)) ∷ others) =
+      (tt, store_balances (integer_cell prog.names name) (reads_code prog line others) empty_height (reads_balance others))
+  reads_balance (_ ∷ others) = (tt, (refl, refl))
+
   statement_balances : (place : ℕ) (x : Stmt) → Whole (statement_code prog place line x)
   statement_balances place (stmt.Assign a) = assignment_balances a
   statement_balances place (stmt.Flow w) = flow_balances place w
   statement_balances place (stmt.Output w) = output_balances w
+  statement_balances place (stmt.Read variables) = reads_balance variables
+  statement_balances place (stmt.Restore to) = restore_balances (restored prog to)
   statement_balances place _ = (tt, (refl, refl))
 
   choice_balances : (jump : Jump) (to : Option ℕ) (ops : List Op) → From ops (one_more empty_height) → From (choice_op jump to line ∷ ops) (one_more empty_height)
@@ -210,15 +231,48 @@ module _ (prog : Prog) (line : ℕ) where
   choices_balance jump (number ∷ numbers) ops rest =
       choice_balances jump (line_place prog number) (choices_code prog line jump numbers ++ ops) (choices_balance jump numbers ops rest)
 
+  -- the values of a WHEN, with that of its CASE below each
+  values_balance : (after : ℕ) (values : List Any) (ops : List Op) → From ops (one_more empty_height) → From (values_code prog line after values ++ ops) (one_more empty_height)
+  values_balance after [] ops rest = rest
+  values_balance after (any.Number x ∷ values) ops rest =
+      subst (λ l. From l (one_more empty_height)) (sym (append_assoc (expr_code prog line x) (o.GoIfEqual after ∷ values_code prog line after values) ops))
+      (expr_balances x (o.GoIfEqual after ∷ (values_code prog line after values ++ ops)) (one_more empty_height) (refl, values_balance after values ops rest))
+  values_balance after (any.Text x ∷ values) ops rest = (tt, rest)
+
+  head_balances : (place : ℕ) (h : Head) → Whole (head_code prog place h)
+  head_balances place head.BlockElse = (refl, (refl, refl))
+  head_balances place head.EndIf = (refl, refl)
+  head_balances place (head.When values) = (refl, (refl, refl))
+  head_balances place head.Otherwise = (refl, (refl, refl))
+  head_balances place head.EndCase = (refl, refl)
+  head_balances place _ = (tt, (refl, refl))
+
+branches_balance : (prog : Prog) (branches : List Branch) (ops : List Op) → From ops (one_more empty_height) → From (branches_code prog branches ++ ops) (one_more empty_height)
+branches_balance prog [] ops rest = rest
+branches_balance prog (b ∷ branches) ops rest =
+    subst (λ l. From l (one_more empty_height)) (sym (append_assoc (values_code prog b.line b.after b.values) (branches_code prog branches) ops))
+    (values_balance prog b.line b.after b.values (branches_code prog branches ++ ops) (branches_balance prog branches ops rest))
+
+module _ (prog : Prog) (line : ℕ) where
+  case_balances : (place : ℕ) (x : Any) → Whole (case_code prog place line x)
+  case_balances place (any.Number x) =
+      let search : List Op = branches_code prog (branches_of prog place) ++ o.Discard ∷ o.Go (after_end prog OpensCase place) ∷ [] in
+      expr_balances prog line x search empty_height (branches_balance prog (branches_of prog place) (o.Discard ∷ o.Go (after_end prog OpensCase place) ∷ []) (tt, (refl, (refl, refl))))
+  case_balances place (any.Text x) = (tt, (refl, refl))
+
   item_balances : (place : ℕ) (i : Item) → Whole (item_code prog place line i)
-  item_balances place (item.Stmt x) = statement_balances place x
-  item_balances place (item.If x) = expr_balances x (o.GoIfZero (else_place prog place) ∷ []) empty_height (refl, (refl, refl))
+  item_balances place (item.Head h) = head_balances prog line place h
+  item_balances place (item.Stmt x) = statement_balances prog line place x
+  item_balances place (item.If x) = expr_balances prog line x (o.GoIfZero (else_place prog place) ∷ []) empty_height (refl, (refl, refl))
+  item_balances place (item.BlockIf x) = expr_balances prog line x (o.GoIfZero (after_end prog OpensIf place) ∷ []) empty_height (refl, (refl, refl))
   item_balances place (item.On x jump numbers) =
       let otherwise : List Op = o.Discard ∷ otherwise_op (on_else prog place) line ∷ [] in
-      expr_balances x (choices_code prog line jump numbers ++ otherwise) empty_height
-      (choices_balance jump numbers otherwise (tt, otherwise_balances (on_else prog place)))
+      expr_balances prog line x (choices_code prog line jump numbers ++ otherwise) empty_height
+      (choices_balance prog line jump numbers otherwise (tt, otherwise_balances prog line (on_else prog place)))
+  item_balances place (item.Case x) = case_balances place x
   item_balances place item.Repeat = (tt, (refl, refl))
   item_balances place item.Else = (refl, (refl, refl))
+  item_balances place (item.Data n) = (refl, refl)
   item_balances place item.Remark = (refl, refl)
   item_balances place _ = (tt, (refl, refl))
 

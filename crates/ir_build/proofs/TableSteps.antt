@@ -1,7 +1,8 @@
 -- How the tables of the flat code grow: item by item, and line by line.
-use Rattle.std.proofs.Common.{◌≡◌, ℕ, suc, ◌+◌, ◌-◌, ◌<◌, Bool, true, false, List, [], ◌∷◌, ◌++◌, Some, length, get_or, drop, refl, sym, ap, subst, ◌∙◌, arith, append_assoc, length-append}
+use Rattle.std.proofs.Common.{◌≡◌, ℕ, suc, ◌+◌, ◌-◌, ◌<◌, ◌≤◌, Bool, true, false, List, [], ◌∷◌, ◌++◌, Some, length, get_or, drop, refl, sym, ap, subst, ◌∙◌, arith, append_assoc, length-append}
 use Rattle.std.proofs.lemmas.Bool.{lt-ltb, le-ltb}
-use Rattle.std.proofs.lemmas.List.{append-nil, at_drop_more, drop_more, length-map}
+use Rattle.std.proofs.Math.Seq.{drop-append_seam}
+use Rattle.std.proofs.lemmas.List.{append-nil, at_drop_more, drop_more, drop-append-le, drop-drop, drop-map, length-map}
 use Rattle.std.specs.Prelude.{flat_map, if◌then◌else◌}
 use Rattle.bas_ast.specs.declared.lines.Item.{Item}
 use Rattle.bas_ast.specs.declared.program.Prog.{Prog}
@@ -12,7 +13,7 @@ use Rattle.bas_ir.specs.declared.op.Op.{Op}
 use Rattle.bas_ir.specs.declared.op.Op.TheVariants as o
 use Rattle.bas_sem.specs.Places.{Row, rows, rest_among, rest_of_line}
 use Rattle.ir_build.specs.Code.{row_code, codes_from, codes, joined, joined_marks, unmarked_all, marks_of, starts_from, start_at, line_starts_from, heights_of}
-use Rattle.ir_build.specs.Tables.{no_tables, with_codes, rows_of, line_rows}
+use Rattle.ir_build.specs.Tables.{no_tables, with_codes, rows_of, line_rows, rows_among}
 use Rattle.ir_build.specs.declared.tables.Tables.{Tables}
 
 -- the marks of what is left of an item's operations
@@ -87,6 +88,7 @@ pub record AreLeft (prog : Prog) (lines : List ProgLine) (place : ℕ) (tables :
   pub lines_too : line_starts_from (codes prog) prog.lines 0 ≡ line_starts ++ line_starts_from (codes prog) lines place
   pub starts : (n : ℕ) → start_at (codes prog) (place + n) ≡ length tables.ops + start_at (codes_from prog place (flat_map line_rows lines)) n
   pub rests : (n : ℕ) → rest_of_line prog (place + n) ≡ rest_among lines n
+  pub rows_too : drop place (rows prog) ≡ rows_among lines
 
 whole_left : (prog : Prog) → AreLeft prog prog.lines 0 no_tables []
 unfolding codes
@@ -95,6 +97,7 @@ whole_left prog = record {
   lines_too = refl;
   starts = λ n. ap (start_at (codes prog)) (from_none n) ∙ sym (from_none (start_at (codes prog) n));
   rests = λ n. ap (rest_among prog.lines) (from_none n);
+  rows_too = refl;
 }
 
 pub all_left : (prog : Prog) (lines : List ProgLine) (tables : Tables) (line_starts : List LineStart)
@@ -117,6 +120,11 @@ past_line line lines n =
 pub first_rests : (prog : Prog) (line : ProgLine) (lines : List ProgLine) (place : ℕ) (tables : Tables) (line_starts : List LineStart)
     → AreLeft prog (line ∷ lines) place tables line_starts → (k : ℕ) → k < length line.items → rest_of_line prog (place + k) ≡ drop (k + 1) line.items
 first_rests prog line lines place tables line_starts left k within = left.rests k ∙ within_line line lines k within
+
+-- the rows of the first line that is left, and those after it
+pub first_rows : (prog : Prog) (line : ProgLine) (lines : List ProgLine) (place : ℕ) (tables : Tables) (line_starts : List LineStart)
+    → AreLeft prog (line ∷ lines) place tables line_starts → drop place (rows prog) ≡ line_rows line ++ rows_among lines
+first_rows prog line lines place tables line_starts left = left.rows_too
 
 -- one line is added
 pub line_added : (prog : Prog) (line : ProgLine) (lines : List ProgLine) (place op place' : ℕ) (tables tables' : Tables) (line_starts : List LineStart)
@@ -143,6 +151,8 @@ line_added prog line lines place op place' tables tables' line_starts left at gr
           let grew : length tables'.ops ≡ length tables.ops + length (joined own) = ap (λ (t : Tables). length t.ops) grown ∙ length-append tables.ops (joined own) in
           ap (start_at (codes prog)) (omega (arith, after)) ∙ left.starts (length own + n) ∙ ap (λ l. length tables.ops + start_at l (length own + n)) split ∙ omega (arith, after_own, grew);
       rests = λ n. ap (rest_of_line prog) (omega (arith, after)) ∙ left.rests (length line.items + n) ∙ past_line line lines n;
+      rows_too = ap (λ n. drop n (rows prog)) (sym there) ∙ sym (drop-drop (length (line_rows line)) place (rows prog))
+          ∙ ap (drop (length (line_rows line))) left.rows_too ∙ drop-append_seam (line_rows line) rest;
     }
 
 -- no line is left
@@ -153,6 +163,11 @@ none_left prog place tables line_starts left = (sym (left.whole ∙ with_none ta
 -- the element at a place is the first of what is left from there
 pub left_from : {X : Type 0} → (xs : List X) (i : ℕ) (x : X) → i < length xs → x ≡ get_or xs i x → drop i xs ≡ x ∷ drop (i + 1) xs
 left_from xs i x within is = drop_more xs i x within ∙ ap (λ y. y ∷ drop (i + 1) xs) (sym is)
+
+-- the line at a place is the first of those that are left from there
+pub line_left : (prog : Prog) (lines : List ProgLine) (i : ℕ) (line : ProgLine) (place : ℕ) (tables : Tables) (line_starts : List LineStart) → i < length lines → line ≡ get_or lines i line
+    → AreLeft prog (drop i lines) place tables line_starts → AreLeft prog (line ∷ drop (i + 1) lines) place tables line_starts
+line_left prog lines i line place tables line_starts within is left = subst (λ l. AreLeft prog l place tables line_starts) (left_from lines i line within is) left
 
 -- one mark more
 pub mark_added : (is_first : Bool) (code : List Op) (i : ℕ) (marks marks' whole : List Bool) → i < length code
@@ -165,6 +180,16 @@ mark_added is_first code i marks marks' whole within more is =
     one_mark : (is_first : Bool) (op : Op) (ops : List Op) → marks_left is_first (op ∷ ops) ≡ is_first ∷ unmarked_all ops
     one_mark true op ops = refl
     one_mark false op ops = refl
+
+-- the rows from an item of a line on
+pub rows_from : (prog : Prog) (number first place : ℕ) (items : List Item) (i : ℕ) (x : Item) (later : List Row) → i < length items → x ≡ get_or items i x → place ≡ first + i
+    → drop first (rows prog) ≡ rows_of number items ++ later → drop place (rows prog) ≡ record { line = number; item = x } ∷ (rows_of number (drop (i + 1) items) ++ later)
+rows_from prog number first place items i x later within is at all =
+    let rest : List Row = rows_of number items in
+    let same : length rest ≡ length items = length-map items (λ item. record { line = number; item = item }) in
+    let long : i ≤ length rest = omega (arith, within, same) in
+    ap (λ n. drop n (rows prog)) at ∙ sym (drop-drop i first (rows prog)) ∙ ap (drop i) all ∙ drop-append-le i rest later long
+    ∙ ap (λ l. l ++ later) (drop-map (λ item. record { line = number; item = item }) i items ∙ ap (rows_of number) (left_from items i x within is))
 
 -- one item is added
 pub item_added : (prog : Prog) (number first place : ℕ) (items : List Item) (i : ℕ) (item : Item) (code : List Op) (tables tables' whole : Tables)

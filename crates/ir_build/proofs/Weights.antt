@@ -127,6 +127,7 @@ module _ (prog : Prog) (line : ℕ) where
       jump_light place (plain_weight x) (expr_code prog line x ++ o.GoIfZero (else_place prog place) ∷ [])
       (ends_light (plain_weight x) (expr_code prog line x) (o.GoIfZero (else_place prog place)) (expr_light x) refl)
   item_light place item.Else = (omega arith, refl)
+  item_light place (item.Data n) = (omega arith, refl)
   item_light place item.Remark = (omega arith, refl)
   item_light place _ = tt
 

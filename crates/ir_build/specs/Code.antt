@@ -1,5 +1,7 @@
 -- The flat code of a program, item by item. This project's own.
 use Rattle.std.specs.Prelude.{ℕ, zero, suc, ◌+◌, pos, negsuc, Bool, true, false, List, [], ◌∷◌, ◌++◌, Option, None, Some, length, flat_map}
+use Rattle.bas_ast.specs.declared.expressions.Any.{Any}
+use Rattle.bas_ast.specs.declared.expressions.Any.TheVariants as any
 use Rattle.bas_ast.specs.declared.expressions.NumExpr.{NumExpr, more_of-NumExpr as held}
 use Rattle.bas_ast.specs.declared.expressions.NumExpr.TheVariants as num
 use Rattle.bas_ast.specs.declared.expressions.StrExpr.{StrExpr}
@@ -8,6 +10,8 @@ use Rattle.bas_ast.specs.declared.expressions.BinaryOp.TheVariants as operators
 use Rattle.bas_ast.specs.declared.expressions.UnaryOp.{UnaryOp}
 use Rattle.bas_ast.specs.declared.expressions.UnaryOp.TheVariants as unary
 use Rattle.bas_ast.specs.declared.expressions.Variable.TheVariants as var
+use Rattle.bas_ast.specs.declared.lines.Head.{Head}
+use Rattle.bas_ast.specs.declared.lines.Head.TheVariants as head
 use Rattle.bas_ast.specs.declared.lines.Item.{Item}
 use Rattle.bas_ast.specs.declared.lines.Item.TheVariants as item
 use Rattle.bas_ast.specs.declared.lines.Jump.{Jump}
@@ -27,6 +31,9 @@ use Rattle.bas_ast.specs.declared.statements.Stmt.TheVariants as stmt
 use Rattle.bas_ast.specs.declared.statements.VduPart.{VduPart}
 use Rattle.bas_ast.specs.declared.statements.VduPart.TheVariants as sends
 use Rattle.bas_ast.specs.declared.targets.NumTarget.TheVariants as target
+use Rattle.bas_ast.specs.declared.targets.Target.{Target}
+use Rattle.bas_ast.specs.declared.targets.Target.TheVariants as targets
+use Rattle.bas_ast.specs.Structures.{OpensWhile, OpensIf, DividesIf, OpensCase, DividesCase}
 use Rattle.bas_ir.specs.declared.ir.Height.{Height}
 use Rattle.bas_ir.specs.declared.ir.Ir.{Ir}
 use Rattle.bas_ir.specs.declared.ir.LineStart.{LineStart}
@@ -39,7 +46,8 @@ use Rattle.bas_ir.specs.declared.op.Piece.TheVariants as pieces
 use Rattle.bas_ir.specs.Heights.{height_after, empty_height}
 use Rattle.bas_store.specs.Cells.{Cell, Resident, Integer, integer_cell}
 use Rattle.bas_value.specs.Errors.{no_such_line, on_range, stopped}
-use Rattle.bas_sem.specs.Places.{Row, rows, next_line, else_place, on_else, after_endwhile, line_place}
+use Rattle.bas_sem.specs.Data.{data_texts, restored}
+use Rattle.bas_sem.specs.Places.{Row, Branch, rows, next_line, else_place, on_else, after_end, branches_of, line_place}
 
 -- Reads and stores of an integer.
 abbrev pub read_op : ℕ → Cell → Op
@@ -95,7 +103,7 @@ go_op (Some place) line = o.Go place
 -- GOSUB
 abbrev pub gosub_op : Option ℕ → ℕ → Op
 gosub_op None line = o.Raise no_such_line line
-gosub_op (Some place) line = o.Gosub place line
+gosub_op (Some place) line = o.Gosub line place
 
 -- the variable of a FOR
 abbrev pub counter_of : Cell → Counter
@@ -130,7 +138,7 @@ flow_code prog place line flow.Return = o.Return line ∷ []
 flow_code prog place line (flow.For name x y z) = for_code prog line (integer_cell prog.names name) x y z
 flow_code prog place line (flow.Next names) = next_code prog line names
 flow_code prog place line (flow.Until x) = expr_code prog line x ++ o.Until line ∷ []
-flow_code prog place line (flow.While x) = expr_code prog line x ++ o.GoIfZero (after_endwhile prog place) ∷ o.OpenWhile line ∷ []
+flow_code prog place line (flow.While x) = expr_code prog line x ++ o.GoIfZero (after_end prog OpensWhile place) ∷ o.OpenWhile line ∷ []
 flow_code prog place line flow.EndWhile = o.EndWhile line ∷ []
 flow_code prog place line flow.End = o.End ∷ []
 flow_code prog place line flow.Stop = o.Raise stopped line ∷ []
@@ -140,7 +148,7 @@ flow_code prog place line flow.Quit = o.End ∷ []
 abbrev pub choice_op : Jump → Option ℕ → ℕ → Op
 choice_op jump None line = o.RaiseIfOne no_such_line line
 choice_op jumps.Goto (Some place) line = o.GoIfOne place
-choice_op jumps.Gosub (Some place) line = o.GosubIfOne place line
+choice_op jumps.Gosub (Some place) line = o.GosubIfOne line place
 
 -- the lines of ON
 abbrev pub choices_code : Prog → ℕ → Jump → List ℕ → List Op
@@ -189,20 +197,64 @@ output_code prog line (writes.Mode x) = expr_code prog line x ++ o.Write pieces.
 output_code prog line (writes.Colour x) = expr_code prog line x ++ o.Write pieces.Colour ∷ []
 output_code prog line writes.Cls = o.WriteMark marks.Clear ∷ []
 
+-- READ: the number of an item is pushed and stored, for each variable
+abbrev pub reads_code : Prog → ℕ → List Target → List Op
+reads_code prog line [] = []
+reads_code prog line (targets.Number (target.Variable (var.Simple name)) ∷ others) =
+    o.ReadNumber line ∷ store_op (integer_cell prog.names name) ∷ reads_code prog line others
+reads_code prog line _ = o.End ∷ []
+
+-- RESTORE
+abbrev pub restore_op : Option ℕ → ℕ → Op
+restore_op None line = o.Raise no_such_line line
+restore_op (Some place) line = o.Restore place
+
 -- a plain statement at a place
 abbrev pub statement_code : Prog → ℕ → ℕ → Stmt → List Op
 statement_code prog place line (stmt.Assign a) = assignment_code prog line a
 statement_code prog place line (stmt.Flow f) = flow_code prog place line f
 statement_code prog place line (stmt.Output w) = output_code prog line w
+statement_code prog place line (stmt.Read variables) = reads_code prog line variables
+statement_code prog place line (stmt.Restore to) = restore_op (restored prog to) line ∷ []
 statement_code prog place line _ = o.End ∷ []
+
+-- The values of a WHEN of a line, which has this place after it. That of the CASE stays pending below each.
+abbrev pub values_code : Prog → (line after : ℕ) → List Any → List Op
+values_code prog line after [] = []
+values_code prog line after (any.Number x ∷ xs) = expr_code prog line x ++ o.GoIfEqual after ∷ values_code prog line after xs
+values_code prog line after (any.Text x ∷ xs) = o.End ∷ []
+
+-- the WHENs of a CASE
+abbrev pub branches_code : Prog → List Branch → List Op
+branches_code prog [] = []
+branches_code prog (b ∷ bs) = values_code prog b.line b.after b.values ++ branches_code prog bs
+
+-- CASE at a place: after the values of its WHENs the run goes on after its OTHERWISE or ENDCASE
+abbrev pub case_code : Prog → ℕ → ℕ → Any → List Op
+case_code prog place line (any.Number x) =
+    expr_code prog line x ++ (branches_code prog (branches_of prog place) ++ o.Discard ∷ o.Go (after_end prog OpensCase place) ∷ [])
+case_code prog place line (any.Text x) = o.End ∷ []
+
+-- what begins a line
+abbrev pub head_code : Prog → ℕ → Head → List Op
+head_code prog place head.BlockElse = o.Go (after_end prog DividesIf place) ∷ []
+head_code prog place head.EndIf = []
+head_code prog place (head.When values) = o.Go (after_end prog DividesCase place) ∷ []
+head_code prog place head.Otherwise = o.Go (after_end prog DividesCase place) ∷ []
+head_code prog place head.EndCase = []
+head_code prog place _ = o.End ∷ []
 
 -- An item at a place. What goes on with the next item falls through to it.
 abbrev pub item_code : Prog → ℕ → ℕ → Item → List Op
+item_code prog place line (item.Head h) = head_code prog place h
 item_code prog place line (item.Stmt s) = statement_code prog place line s
 item_code prog place line (item.If x) = expr_code prog line x ++ o.GoIfZero (else_place prog place) ∷ []
+item_code prog place line (item.BlockIf x) = expr_code prog line x ++ o.GoIfZero (after_end prog OpensIf place) ∷ []
 item_code prog place line (item.On x jump numbers) = on_code prog place line x jump numbers
+item_code prog place line (item.Case x) = case_code prog place line x
 item_code prog place line item.Repeat = o.OpenRepeat line ∷ []
 item_code prog place line item.Else = o.Go (next_line prog place) ∷ []
+item_code prog place line (item.Data n) = []
 item_code prog place line item.Remark = []
 item_code prog place line _ = o.End ∷ []
 
@@ -277,7 +329,7 @@ flat_code prog = record {
   routines = [];
   texts = prog.texts;
   names = prog.names;
-  data_items = prog.data_items;
+  data_items = data_texts prog;
   line_starts = line_starts_from (codes prog) prog.lines 0;
   size = prog.size;
 }

@@ -2,3 +2,4 @@ pub mod Code
 pub mod Weight
 pub mod Tables
 pub mod Ends
+pub mod Branches

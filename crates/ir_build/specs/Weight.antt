@@ -81,12 +81,13 @@ statement_weight prog (stmt.Flow flow.End) = Some 0
 statement_weight prog (stmt.Output (writes.Vdu (sends.Byte x ∷ []))) = plain_weight x
 statement_weight prog _ = None
 
--- The weight of a simple item: its operators, operands and targets. Other items have none. DATA and a met DEF line have their
--- lines here when they have a meaning.
+-- The weight of a simple item: its operators, operands and targets. Other items have none. A met DEF line has its line here when it
+-- has a meaning.
 abbrev pub item_weight : Prog → Item → Option ℕ
 item_weight prog (item.Stmt s) = statement_weight prog s
 item_weight prog (item.If x) = plain_weight x
 item_weight prog item.Else = Some 0
+item_weight prog (item.Data n) = Some 0
 item_weight prog item.Remark = Some 0
 item_weight prog _ = None
 

@@ -1,5 +1,5 @@
 //! Copies of the tables of a program.
-ghost use Rattle.std.specs.Prelude.{◌≡◌, ◌≤◌, length, IfOk};
+ghost use Rattle.std.specs.Prelude.{◌≡◌, ◌≤◌, length, map, IfOk};
 ghost use Rattle.std.specs.List.{AllByRecursion};
 
 use bas_ast::{DataItem, Name};
@@ -29,25 +29,16 @@ pub fn copied_names(alloc: Global, names: &[Name]) -> Result<Items<Name>, NoMemo
     Ok(copies)
 }
 
-/// A copy of an item of DATA.
-fn copied_data_item(alloc: Global, item: &DataItem) -> Result<DataItem, NoMemory>
-    ensures { IfOk result (λ copy. copy ≡ item.now) }
+/// The texts of the items of DATA.
+pub fn data_texts(alloc: Global, items: &[DataItem]) -> Result<Items<Str>, NoMemory>
+    requires { AllByRecursion (λ d. length d.text ≤ LONGEST_STRING) items.now }
+    ensures { IfOk result (λ texts. texts ≡ map (λ d. d.text) items.now) }
 {
-    Ok(DataItem {
-        line: item.line,
-        text: Items::from_slice(alloc, item.text.as_slice())?,
-    })
-}
-
-/// A copy of the items of DATA.
-pub fn copied_data_items(alloc: Global, items: &[DataItem]) -> Result<Items<DataItem>, NoMemory>
-    ensures { IfOk result (λ copies. copies ≡ items.now) }
-{
-    let mut copies = Items::new(alloc);
+    let mut texts = Items::new(alloc);
     for i in 0..items.len() {
-        copies.push(copied_data_item(alloc, &items[i])?)?;
+        texts.push(Str::of_bytes(items[i].text.as_slice()))?;
     }
-    Ok(copies)
+    Ok(texts)
 }
 
 /// The texts as strings.

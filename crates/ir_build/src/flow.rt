@@ -1,6 +1,8 @@
 //! The code of statements that say where the run goes on, and of ON. A new one gets an arm in `push_flow`.
 ghost use Rattle.std.specs.Prelude.{◌≡◌, [], ◌∷◌, ◌++◌, IfOk, OnOk};
-ghost use Rattle.bas_ir.specs.declared.op.Op.TheVariants as operations;
+ghost use Rattle.bas_ast.specs.declared.lines.Item.TheVariants as items;
+ghost use Rattle.bas_ast.specs.declared.statements.Stmt.TheVariants as statements;
+ghost use Rattle.bas_ast.specs.Structures.{bound};
 ghost use Rattle.bas_sem.specs.Places as places;
 ghost use Rattle.bas_store.specs.Cells.{integer_cell};
 ghost use Rattle.ir_build.specs.Code as spec;
@@ -8,7 +10,7 @@ ghost use Rattle.ir_build.specs.Code as spec;
 use crate::expressions::{counter, push_expr, store_op};
 use crate::numbers::plus;
 use crate::ops::put;
-use crate::places::{found_else, line_place};
+use crate::places::{NO_SUCH_LINE, found_else, line_place};
 use bas_ast::{Flow, Item, Jump, NumExpr, Prog};
 use bas_ir::Op;
 use bv_base::NoMemory;
@@ -19,9 +21,6 @@ const STOPPED: u8 = 0;
 
 /// The error of a number of ON that has no line.
 const ON_RANGE: u8 = 40;
-
-/// The error of a line that the program does not have.
-const NO_SUCH_LINE: u8 = 41;
 
 /// The operation of a GOTO.
 fn go_op(prog: &Prog, line: u16, number: u16) -> Result<Op, NoMemory>
@@ -41,7 +40,7 @@ fn gosub_op(prog: &Prog, line: u16, number: u16) -> Result<Op, NoMemory>
     ensures { IfOk result (λ op. op ≡ spec.gosub_op (places.line_place prog.now number) line) }
 {
     match line_place(prog, number)? {
-        Some(item) => Ok(Op::Gosub { item, line }),
+        Some(item) => Ok(Op::Gosub { line, item }),
         None => Ok(Op::Raise {
             error: NO_SUCH_LINE,
             line,
@@ -105,16 +104,17 @@ fn push_next(prog: &Prog, line: u16, names: &[u16], ops: &mut Items<Op>) -> Resu
     }
 }
 
-/// Adds the code of a statement that says where the run goes on. A WHILE in its stead goes on with 0 at a place.
+/// Adds the code of a statement that says where the run goes on. The end is the place
+/// after the ENDWHILE of a WHILE.
 pub fn push_flow(
     prog: &Prog,
     place: u32,
     line: u16,
     flow: &Flow,
-    after_while: u32,
+    end: u32,
     ops: &mut Items<Op>,
 ) -> Result<(), NoMemory>
-    requires { after_while ≡ places.after_endwhile prog.now place }
+    requires { end ≡ places.after_end prog.now (bound (items.Stmt (statements.Flow flow.now))) place }
     ensures { OnOk result (ops.new ≡ ops.old ++ spec.flow_code prog.now place line flow.now) }
 {
     match flow {
@@ -131,7 +131,7 @@ pub fn push_flow(
         }
         Flow::While(x) => {
             push_expr(prog, line, x, ops)?;
-            put(ops, Op::GoIfZero(after_while))?;
+            put(ops, Op::GoIfZero(end))?;
             put(ops, Op::OpenWhile { line })
         }
         Flow::EndWhile => put(ops, Op::EndWhile { line }),
@@ -152,7 +152,7 @@ fn choice_op(prog: &Prog, line: u16, jump: Jump, number: u16) -> Result<Op, NoMe
 {
     match (line_place(prog, number)?, jump) {
         (Some(item), Jump::Goto) => Ok(Op::GoIfOne(item)),
-        (Some(item), Jump::Gosub) => Ok(Op::GosubIfOne { item, line }),
+        (Some(item), Jump::Gosub) => Ok(Op::GosubIfOne { line, item }),
         (None, _) => Ok(Op::RaiseIfOne {
             error: NO_SUCH_LINE,
             line,

@@ -98,14 +98,16 @@ fn height_after(op: Op, height: Height) -> Result<Option<Height>, NoMemory>
     ensures { IfOk result (λ after. after ≡ spec.height_after [] op height) }
 {
     match op {
-        Op::Push(_) | Op::PushColumn | Op::PushResident(_) | Op::PushInteger { .. } => {
-            Ok(Some(one_more(height)?))
-        }
+        Op::Push(_)
+        | Op::PushColumn
+        | Op::PushResident(_)
+        | Op::PushInteger { .. }
+        | Op::ReadNumber { .. } => Ok(Some(one_more(height)?)),
         Op::PushText(_) => Ok(Some(one_text_more(height)?)),
         Op::Unary { .. } | Op::GoIfOne(_) | Op::GosubIfOne { .. } | Op::RaiseIfOne { .. } => {
             after_unary(height)
         }
-        Op::Binary { .. } => after_binary(height),
+        Op::Binary { .. } | Op::GoIfEqual(_) => after_binary(height),
         Op::OpenFor { .. } => Ok(after_two(height)),
         Op::StoreResident(_)
         | Op::StoreInteger(_)

@@ -2,7 +2,9 @@
 //! what the meaning shows is proved here.
 #![tactic(auto)]
 
+mod cases;
 mod copies;
+mod data;
 mod ends;
 mod expressions;
 mod flow;

@@ -6,6 +6,9 @@ use crate::numbers::plus;
 use bas_ast::{Item, Prog};
 use bv_base::NoMemory;
 
+/// The error of a line that the program does not have.
+pub const NO_SUCH_LINE: u8 = 41;
+
 /// The place of the first line of a number, if the program has one.
 pub fn line_place(prog: &Prog, number: u16) -> Result<Option<u32>, NoMemory>
     ensures { IfOk result (λ found. found ≡ spec.line_place prog.now number) }
@@ -18,6 +21,19 @@ pub fn line_place(prog: &Prog, number: u16) -> Result<Option<u32>, NoMemory>
             return Ok(Some(place));
         }
         place = plus(place, line.items.len())?;
+    }
+    Ok(None)
+}
+
+/// The place among the lines of the first line of a number, if the program has one.
+pub fn line_of_number(prog: &Prog, number: u16) -> Result<Option<u32>, NoMemory>
+    ensures { IfOk result (λ found. found ≡ spec.line_of_number prog.now number) }
+{
+    let lines = prog.lines.as_slice();
+    for i in 0..lines.len() {
+        if lines[i].number == number {
+            return Ok(Some(plus(0, i)?));
+        }
     }
     Ok(None)
 }

@@ -3,7 +3,7 @@ ghost use Rattle.std.specs.Prelude.{◌≡◌, ◌≤◌, length, IfOk};
 ghost use Rattle.std.specs.List.{AllByRecursion};
 ghost use Rattle.ir_build.specs.Code.{flat_code};
 
-use crate::copies::{copied_data_items, copied_names, strings};
+use crate::copies::{copied_names, data_texts, strings};
 use crate::ends::Ends;
 use crate::numbers::plus;
 use crate::tables::{Tables, add_line};
@@ -14,10 +14,11 @@ use bv_base::NoMemory;
 use sqlite_items::Items;
 use std::alloc::Global;
 
-/// The flat code of a program, each text of which has at most 255 bytes. It has copies of the program's names, texts and
-/// items of DATA.
+/// The flat code of a program, of which each text and each item of DATA has at most 255 bytes. It has copies of the program's
+/// names, texts and items of DATA.
 pub fn build(alloc: Global, prog: &Prog) -> Result<Ir, NoMemory>
-    requires { AllByRecursion (λ text. length text ≤ LONGEST_STRING) prog.now.texts }
+    requires texts { AllByRecursion (λ text. length text ≤ LONGEST_STRING) prog.now.texts }
+    requires data { AllByRecursion (λ d. length d.text ≤ LONGEST_STRING) prog.now.data_items }
     ensures { IfOk result (λ ir. ir ≡ flat_code prog.now) }
 {
     let ends = Ends::of_program(alloc, prog)?;
@@ -31,7 +32,15 @@ pub fn build(alloc: Global, prog: &Prog) -> Result<Ir, NoMemory>
             number: line.number,
             op: plus(0, tables.ops.len())?,
         })?;
-        add_line(alloc, prog, &ends, place, line, &mut tables)?;
+        add_line(
+            alloc,
+            prog,
+            &ends,
+            place,
+            line,
+            &lines[i + 1..],
+            &mut tables,
+        )?;
         place = plus(place, line.items.len())?;
     }
     let Tables {
@@ -48,7 +57,7 @@ pub fn build(alloc: Global, prog: &Prog) -> Result<Ir, NoMemory>
         routines: Items::new(alloc),
         texts: strings(alloc, prog.texts.as_slice())?,
         names: copied_names(alloc, prog.names.as_slice())?,
-        data_items: copied_data_items(alloc, prog.data_items.as_slice())?,
+        data_items: data_texts(alloc, prog.data_items.as_slice())?,
         line_starts,
         size: prog.size,
     })

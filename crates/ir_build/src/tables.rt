@@ -1,9 +1,9 @@
 //! The tables of the flat code, to which one item after the other is added.
 ghost use Rattle.std.specs.Prelude.{◌≡◌, ◌+◌, ◌<◌, [], ◌∷◌, ◌++◌, ℕ, length, drop, OnOk};
-ghost use Rattle.bas_sem.specs.Places.{rest_of_line};
+ghost use Rattle.bas_sem.specs.Places.{rows, rest_of_line};
 ghost use Rattle.ir_build.specs.Code as spec;
 ghost use Rattle.ir_build.specs.Ends.{AreEndsOf};
-ghost use Rattle.ir_build.specs.Tables.{no_tables, with_codes, line_rows};
+ghost use Rattle.ir_build.specs.Tables.{no_tables, with_codes, line_rows, rows_among};
 
 use crate::ends::Ends;
 use crate::heights::push_heights;
@@ -64,33 +64,28 @@ fn add_item(tables: &mut Tables, code: Items<Op>) -> Result<(), NoMemory>
     Ok(())
 }
 
-/// Adds the items of a line, of which the first is at a place, with the ends of the program's WHILEs.
+/// Adds the items of a line, of which the first is at a place, and after which these lines stand, with the ends of the program's
+/// structures.
 pub fn add_line(
     alloc: Global,
     prog: &Prog,
     ends: &Ends,
     first: u32,
     line: &ProgLine,
+    later: &[ProgLine],
     tables: &mut Tables,
 ) -> Result<(), NoMemory>
     requires ends { AreEndsOf ends.now prog.now }
     requires rests { (k : ℕ) → k < length line.now.items → rest_of_line prog.now (first + k) ≡ drop (k + 1) line.now.items }
+    requires rows { drop first (rows prog.now) ≡ line_rows line.now ++ rows_among later.now }
     ensures { OnOk result (tables.new ≡ with_codes tables.old (spec.codes_from prog.now first (line_rows line.now))) }
 {
     let items = line.items.as_slice();
     for i in 0..items.len() {
         let place = plus(first, i)?;
         let rest = &items[i + 1..];
-        let after_while = ends.after_endwhile(place)?;
-        let code = row_code(
-            alloc,
-            prog,
-            place,
-            line.number,
-            &items[i],
-            rest,
-            after_while,
-        )?;
+        let end = ends.after_end(place);
+        let code = row_code(alloc, prog, place, line.number, &items[i], rest, later, end)?;
         add_item(tables, code)?;
     }
     Ok(())

@@ -42,7 +42,8 @@ fn second_line(alloc: Global) -> Result<Items<Item>, NoMemory> {
 
 /// The two lines as lines 10 and 20. There is no line 15.
 fn program(alloc: Global) -> Result<Prog, NoMemory>
-    ensures { IfOk result (λ prog. prog.texts ≡ []) }
+    ensures texts { IfOk result (λ prog. prog.texts ≡ []) }
+    ensures data_items { IfOk result (λ prog. prog.data_items ≡ []) }
 {
     let mut lines = Items::new(alloc);
     lines.push(ProgLine {
@@ -113,4 +114,13 @@ fn two_lines(rt: HostRuntime) -> Result<(), Fail> {
         assert!(rt; ir.heights.get(place) == Some(&height), "at {place}");
     }
     Ok(())
+}
+
+/// The bytes of an operation.
+const OP_BYTES: usize = std::mem::size_of::<Op>();
+
+/// An operation has eight bytes.
+#[test]
+fn operations_are_small(rt: HostRuntime) {
+    assert_eq!(rt; OP_BYTES, 8);
 }

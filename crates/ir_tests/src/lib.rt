@@ -3,6 +3,12 @@
 #![tactic(auto)]
 
 #[cfg(test)]
+mod blocks;
+#[cfg(test)]
 mod code;
 #[cfg(test)]
+mod data;
+#[cfg(test)]
 mod loops;
+#[cfg(test)]
+mod parts;

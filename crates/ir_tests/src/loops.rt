@@ -2,25 +2,14 @@
 
 ghost use Rattle.std.specs.Prelude.{◌≡◌, [], IfOk};
 
-use bas_ast::{Flow, Item, Jump, Name, NameKind, NumExpr, Prog, ProgLine, Stmt, Variable};
+use crate::parts::{COUNT, flow, letter, line, names};
+use bas_ast::{Flow, Item, Jump, NumExpr, Prog};
 use bas_ir::{Counter, Height, LineStart, Op};
 use bv_base::NoMemory;
 use ir_build::build;
 use sqlite_items::Items;
 use std::alloc::Global;
 use std::test::Fail;
-
-/// The name `count%`.
-const COUNT: u16 = 1;
-
-/// `A%`
-fn letter() -> NumExpr {
-    NumExpr::Variable(Variable::Simple(0))
-}
-
-fn flow(flow: Flow) -> Item {
-    Item::Stmt(Stmt::Flow(flow))
-}
 
 /// `FOR count%=1 TO 3 STEP 2` and `NEXT count%,A%`
 fn counted(alloc: Global) -> Result<Items<Item>, NoMemory> {
@@ -63,32 +52,19 @@ fn repeat_loop(alloc: Global) -> Result<Items<Item>, NoMemory> {
     Ok(items)
 }
 
-fn line(number: u16, items: Items<Item>) -> ProgLine {
-    ProgLine { number, items }
-}
-
-fn integer(alloc: Global, text: &[u8]) -> Result<Name, NoMemory> {
-    Ok(Name {
-        kind: NameKind::Integer,
-        text: Items::from_slice(alloc, text)?,
-    })
-}
-
 /// The four lines as lines 10 to 40. There is no line 99.
 fn program(alloc: Global) -> Result<Prog, NoMemory>
-    ensures { IfOk result (λ prog. prog.texts ≡ []) }
+    ensures texts { IfOk result (λ prog. prog.texts ≡ []) }
+    ensures data_items { IfOk result (λ prog. prog.data_items ≡ []) }
 {
     let mut lines = Items::new(alloc);
     lines.push(line(10, counted(alloc)?))?;
     lines.push(line(20, while_loop(alloc)?))?;
     lines.push(line(30, on_goto(alloc)?))?;
     lines.push(line(40, repeat_loop(alloc)?))?;
-    let mut names = Items::new(alloc);
-    names.push(integer(alloc, b"A%")?)?;
-    names.push(integer(alloc, b"count%")?)?;
     Ok(Prog {
         lines,
-        names,
+        names: names(alloc)?,
         texts: Items::new(alloc),
         data_items: Items::new(alloc),
         size: 60,
@@ -119,7 +95,7 @@ fn four_lines(rt: HostRuntime) -> Result<(), Fail> {
         Op::PushResident(0),
         Op::GoIfZero(5),
         Op::OpenWhile { line: 20 },
-        Op::Gosub { item: 0, line: 20 },
+        Op::Gosub { line: 20, item: 0 },
         Op::EndWhile { line: 20 },
         Op::PushResident(0),
         Op::GoIfOne(0),
@@ -135,7 +111,7 @@ fn four_lines(rt: HostRuntime) -> Result<(), Fail> {
         Op::PushResident(0),
         Op::Until { line: 40 },
         Op::PushResident(0),
-        Op::GosubIfOne { item: 2, line: 40 },
+        Op::GosubIfOne { line: 40, item: 2 },
         Op::Discard,
         Op::Raise {
             error: 40,

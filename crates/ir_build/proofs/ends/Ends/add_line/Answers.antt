@@ -1,5 +1,5 @@
 use Rattle.std.proofs.Common.{refl, ◌-◌, ◌∙◌, length}
-use Rattle.ir_build.proofs.WhileEnds.{line_end_added}
+use Rattle.ir_build.proofs.EndTables.{line_end_added}
 use Rattle.ir_build.proofs.ends.Ends.add_line.Goals as goal
 
 pub loop-i-preserved : goal.loop-i-preserved

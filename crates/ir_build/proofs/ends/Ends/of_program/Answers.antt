@@ -4,7 +4,7 @@ use Rattle.bas_ast.specs.declared.program.ProgLine.{ProgLine}
 use Rattle.bas_sem.specs.Places.{Row}
 use Rattle.ir_build.specs.Ends.{AreEnds}
 use Rattle.ir_build.specs.Tables.{rows_of}
-use Rattle.ir_build.proofs.WhileEnds.{late_within, line_late}
+use Rattle.ir_build.proofs.EndTables.{late_within, line_late, all_late}
 use Rattle.ir_build.proofs.ends.Ends.of_program.Goals as goal
 
 pub overflow_sub-place : goal.overflow_sub-place
@@ -31,3 +31,6 @@ loop-i-preserved c =
     c.loop-i-test.true refl c.index-lines-lines.is (omega (arith, room, ap length items)) c.loop-i.invariant
     (subst (λ (l : List Item). (number : ℕ) (rest : List Row) → AreEnds c.loop-i.ends rest (first + length l) → AreEnds c.add_line.new.self (rows_of number l ++ rest) first)
     items c.in_ok-add_line.ensures.ends) c.in_ok-add_line.ensures.total
+
+pub returns : goal.returns
+returns c = all_late c.args.prog.now c.as_slice-lines.result.now c.loop-i.ends c.loop-i.i c.loop-i.place c.as_slice-lines.ensures c.loop-i-test.false c.loop-i.invariant

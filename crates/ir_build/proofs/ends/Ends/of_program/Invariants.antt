@@ -1,5 +1,5 @@
 use Rattle.std.proofs.Common.{◌-◌, length}
-use Rattle.ir_build.proofs.WhileEnds.{AreLate}
+use Rattle.ir_build.proofs.EndTables.{AreLate}
 use Rattle.ir_build.proofs.ends.Ends.of_program.Given as goal
 
 abbrev pub invariant-loop-i : goal.invariant-loop-i
