@@ -194,6 +194,14 @@ lines_add most labels place lists after (cut ∷ cuts) (p ∷ progs) so is_cut a
     lines_add most labels (place + 1) (numbered labels place lists cut).lists after cuts progs so.2 is_cut.1
     (line_adds most place cut.text false cut.symbols (terminals_of labels cut.text cut.symbols) lists is_cut.0.short all)
 
+pub data_short : (most : ℕ) (lines : List Line) (prog : Prog) → IsProgram lines prog → AllByRecursion (λ (l : Line). length l.text ≤ most) lines
+    → AllByRecursion (λ (d : DataItem). length d.text ≤ most) prog.data_items
+unfolding AreShort
+data_short most lines prog is short =
+    let spelled = is.spelled in
+    subst (AreShort most) (sym is.data_items)
+    (lines_add most (labels_of spelled.cuts) 0 no_lists is.lists spelled.cuts prog.lines spelled.are_lines (cuts_are most false lines spelled.cuts None spelled.cut short) tt)
+
 -- ---- size
 
 symbols_weight : List Terminal → ℕ
@@ -237,8 +245,7 @@ program_well_formed lines prog is short =
       short_texts = All-from_recursion (λ (text : List ℕ). length text ≤ limit.longest_text) prog.texts (texts_short limit.longest_text lines prog is short);
       closed = is.closed;
       data_items = subst (IsDataOf 0 prog.lines 0) (sym (is.data_items ∙ items.1)) items.2;
-      short_data = All-from_recursion (λ (d : DataItem). length d.text ≤ limit.longest_text) prog.data_items
-          (subst (AreShort limit.longest_text) (sym is.data_items) (lines_add limit.longest_text labels 0 no_lists after cuts prog.lines are cut tt));
+      short_data = All-from_recursion (λ (d : DataItem). length d.text ≤ limit.longest_text) prog.data_items (data_short limit.longest_text lines prog is short);
       size =
           let symbols_is = sum-map symbols_weight symbols in
           let texts_is = sum-map length prog.texts in

@@ -1,12 +1,16 @@
 -- Which forms of the language have a meaning yet. A line with another form is outside. Later work only widens this.
 use Rattle.std.specs.Prelude.{Bool, true, false, ◌&&◌, Option, None, Some}
 use Rattle.std.specs.List.{list_all}
+use Rattle.bas_ast.specs.declared.expressions.Any.{Any}
+use Rattle.bas_ast.specs.declared.expressions.Any.TheVariants as any
 use Rattle.bas_ast.specs.declared.expressions.NumExpr.{NumExpr, more_of-NumExpr as held}
 use Rattle.bas_ast.specs.declared.expressions.NumExpr.TheVariants as num
 use Rattle.bas_ast.specs.declared.expressions.StrExpr.{StrExpr}
 use Rattle.bas_ast.specs.declared.expressions.StrExpr.TheVariants as str
 use Rattle.bas_ast.specs.declared.expressions.Variable.{Variable}
 use Rattle.bas_ast.specs.declared.expressions.Variable.TheVariants as var
+use Rattle.bas_ast.specs.declared.lines.Head.{Head}
+use Rattle.bas_ast.specs.declared.lines.Head.TheVariants as head
 use Rattle.bas_ast.specs.declared.lines.Item.{Item}
 use Rattle.bas_ast.specs.declared.lines.Item.TheVariants as item
 use Rattle.bas_ast.specs.declared.statements.Assignment.{Assignment}
@@ -23,6 +27,8 @@ use Rattle.bas_ast.specs.declared.statements.VduPart.{VduPart}
 use Rattle.bas_ast.specs.declared.statements.VduPart.TheVariants as sends
 use Rattle.bas_ast.specs.declared.targets.NumTarget.{NumTarget}
 use Rattle.bas_ast.specs.declared.targets.NumTarget.TheVariants as target
+use Rattle.bas_ast.specs.declared.targets.Target.{Target}
+use Rattle.bas_ast.specs.declared.targets.Target.TheVariants as targets
 
 -- a variable that is no array's element
 abbrev pub plain_variable : Variable → Bool
@@ -97,18 +103,44 @@ output_in_profile (writes.Mode x) = num_in_profile x
 output_in_profile (writes.Colour x) = num_in_profile x
 output_in_profile writes.Cls = true
 
+-- where READ stores a number
+abbrev pub read_in_profile : Target → Bool
+read_in_profile (targets.Number t) = target_in_profile t
+read_in_profile (targets.Text t) = false
+
 abbrev pub stmt_in_profile : Stmt → Bool
 stmt_in_profile (stmt.Assign a) = assignment_in_profile a
 stmt_in_profile (stmt.Flow f) = flow_in_profile f
 stmt_in_profile (stmt.Output o) = output_in_profile o
+stmt_in_profile (stmt.Read variables) = list_all read_in_profile variables
+stmt_in_profile (stmt.Restore line) = true
 stmt_in_profile _ = false
 
--- plain statements, IF that is no block, ELSE within a line, ON with lines, REPEAT, and REM
+-- a value of CASE or WHEN that is a number
+abbrev pub value_in_profile : Any → Bool
+value_in_profile (any.Number x) = num_in_profile x
+value_in_profile (any.Text x) = false
+
+-- WHEN of numbers, OTHERWISE, ELSE of a block IF, ENDIF and ENDCASE
+abbrev pub head_in_profile : Head → Bool
+head_in_profile (head.When values) = list_all value_in_profile values
+head_in_profile head.Otherwise = true
+head_in_profile head.BlockElse = true
+head_in_profile head.EndIf = true
+head_in_profile head.EndCase = true
+head_in_profile _ = false
+
+-- plain statements, what begins the lines of a block IF or a CASE, IF, ELSE within a line, ON with lines, CASE of a number, REPEAT, DATA
+-- and REM
 abbrev pub in_profile : Item → Bool
+in_profile (item.Head h) = head_in_profile h
 in_profile (item.Stmt s) = stmt_in_profile s
 in_profile (item.If x) = num_in_profile x
+in_profile (item.BlockIf x) = num_in_profile x
 in_profile item.Else = true
 in_profile (item.On x jump lines) = num_in_profile x
+in_profile (item.Case x) = value_in_profile x
 in_profile item.Repeat = true
+in_profile (item.Data number) = true
 in_profile item.Remark = true
 in_profile _ = false

@@ -34,6 +34,7 @@ fn read_bytes(alloc: Global, bytes: &[u8]) -> Result<Prog, Refusal>
     ensures ok { IfOk result (Accepted bytes.now) }
     ensures well_formed { IfOk result WellFormed }
     ensures texts { IfOk result (λ prog. AllByRecursion (λ text. length text ≤ LONGEST_TEXT) prog.texts) }
+    ensures data { IfOk result (λ prog. AllByRecursion (λ d. length d.text ≤ LONGEST_TEXT) prog.data_items) }
     ensures err { IfErr result (FileExplained bytes.now) }
 {
     if bytes.len() > FILE_BYTES as usize {
@@ -49,6 +50,7 @@ pub fn read_program(alloc: Global, bytes: &[u8]) -> Result<Prog, Refusal>
     ensures accepted { IfOk result (Accepted bytes.now) }
     ensures well_formed { IfOk result WellFormed }
     ensures texts { IfOk result (λ prog. AllByRecursion (λ text. length text ≤ LONGEST_TEXT) prog.texts) }
+    ensures data { IfOk result (λ prog. AllByRecursion (λ d. length d.text ≤ LONGEST_TEXT) prog.data_items) }
     ensures refused { IfErr result (FileExplained bytes.now) }
 
     // An accepted file is read, and a refused one refused for its reason, where there is memory.

@@ -5,7 +5,8 @@ ghost use Rattle.std.specs.List.{list_all};
 ghost use Rattle.profile_check.specs.Profile as spec;
 
 use bas_ast::{
-    Assignment, Flow, Item, NumExpr, NumTarget, Output, PrintPart, Stmt, StrExpr, Variable, VduPart,
+    Any, Assignment, Flow, Head, Item, NumExpr, NumTarget, Output, PrintPart, Stmt, StrExpr,
+    Target, Variable, VduPart,
 };
 
 fn plain_variable(variable: &Variable) -> bool
@@ -127,6 +128,26 @@ fn output_in_profile(output: &Output) -> bool
     }
 }
 
+fn read_in_profile(target: &Target) -> bool
+    ensures { result ≡ spec.read_in_profile target.now }
+{
+    match target {
+        Target::Number(target) => target_in_profile(target),
+        Target::Text(_) => false,
+    }
+}
+
+fn reads_in_profile(targets: &[Target]) -> bool
+    ensures { result ≡ list_all spec.read_in_profile targets.now }
+{
+    for i in 0..targets.len() {
+        if !read_in_profile(&targets[i]) {
+            return false;
+        }
+    }
+    true
+}
+
 fn stmt_in_profile(stmt: &Stmt) -> bool
     ensures { result ≡ spec.stmt_in_profile stmt.now }
 {
@@ -134,7 +155,39 @@ fn stmt_in_profile(stmt: &Stmt) -> bool
         Stmt::Assign(assignment) => assignment_in_profile(assignment),
         Stmt::Flow(flow) => flow_in_profile(flow),
         Stmt::Output(output) => output_in_profile(output),
+        Stmt::Read(targets) => reads_in_profile(targets.as_slice()),
+        Stmt::Restore(_) => true,
         _ => false,
+    }
+}
+
+fn value_in_profile(value: &Any) -> bool
+    ensures { result ≡ spec.value_in_profile value.now }
+{
+    match value {
+        Any::Number(x) => num_in_profile(x),
+        Any::Text(_) => false,
+    }
+}
+
+fn values_in_profile(values: &[Any]) -> bool
+    ensures { result ≡ list_all spec.value_in_profile values.now }
+{
+    for i in 0..values.len() {
+        if !value_in_profile(&values[i]) {
+            return false;
+        }
+    }
+    true
+}
+
+fn head_in_profile(head: &Head) -> bool
+    ensures { result ≡ spec.head_in_profile head.now }
+{
+    match head {
+        Head::When(values) => values_in_profile(values.as_slice()),
+        Head::Otherwise | Head::BlockElse | Head::EndIf | Head::EndCase => true,
+        Head::DefProcedure(_, _) | Head::DefFunction(_, _) => false,
     }
 }
 
@@ -142,9 +195,11 @@ fn item_in_profile(item: &Item) -> bool
     ensures { result ≡ spec.in_profile item.now }
 {
     match item {
+        Item::Head(head) => head_in_profile(head),
         Item::Stmt(stmt) => stmt_in_profile(stmt),
-        Item::If(x) | Item::On(x, _, _) => num_in_profile(x),
-        Item::Else | Item::Repeat | Item::Remark => true,
+        Item::If(x) | Item::BlockIf(x) | Item::On(x, _, _) => num_in_profile(x),
+        Item::Case(value) => value_in_profile(value),
+        Item::Else | Item::Repeat | Item::Data(_) | Item::Remark => true,
         _ => false,
     }
 }

@@ -28,6 +28,7 @@ pub fn check(alloc: Global, lines: &[Line]) -> Result<Prog, Refusal>
     ensures ok { IfOk result (IsProgram lines.now) }
     ensures well_formed { IfOk result WellFormed }
     ensures texts { IfOk result (λ prog. AllByRecursion (λ text. length text ≤ LONGEST_TEXT) prog.texts) }
+    ensures data { IfOk result (λ prog. AllByRecursion (λ d. length d.text ≤ LONGEST_TEXT) prog.data_items) }
     ensures err { IfErr result (Explained lines.now) }
 {
     let cutting = cut_lines(alloc, lines)?;

@@ -10,7 +10,7 @@ use Rattle.profile_check.specs.Tables.{lists_of}
 use Rattle.profile_check.proofs.LineSteps.{outside_after}
 use Rattle.profile_check.proofs.Verdicts.{few_cuts, found_lines, found_outside, refused_unclosed, refused_names, closed_where_none}
 use Rattle.profile_check.proofs.ShortTexts.{texts_short}
-use Rattle.profile_check.proofs.WellFormedPrograms.{program_well_formed}
+use Rattle.profile_check.proofs.WellFormedPrograms.{data_short, program_well_formed}
 use Rattle.profile_check.proofs.program.check.Goals as goal
 
 pub parse_lines-requires-clause-few : goal.parse_lines-requires-clause-few
@@ -55,6 +55,9 @@ returns-clause-ok c =
 
 pub returns-clause-texts : goal.returns-clause-texts
 returns-clause-texts c = texts_short 251 c.args.lines.now _ (returns-clause-ok c) c.requires.short
+
+pub returns-clause-data : goal.returns-clause-data
+returns-clause-data c = data_short 251 c.args.lines.now _ (returns-clause-ok c) c.requires.short
 
 pub returns-clause-well_formed : goal.returns-clause-well_formed
 returns-clause-well_formed c = program_well_formed c.args.lines.now _ (returns-clause-ok c) c.requires.short
