@@ -7,6 +7,7 @@ mod interp;
 mod loops;
 mod memory;
 mod operators;
+mod read;
 mod run;
 mod stack;
 mod write;

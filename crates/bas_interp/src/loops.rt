@@ -1,14 +1,15 @@
 //! Loops and GOSUBs: what opens them, and what their closing words do.
-ghost use Rattle.std.specs.Prelude.{◌≡◌, ℕ, ◌<◌, ◌+◌, ◌∷◌, length, nat_lt, pos};
+ghost use Rattle.std.specs.Prelude.{◌≡◌, ◌<◌, ◌+◌, ◌∷◌, length, nat_lt, pos};
 ghost use Rattle.std.specs.Ordering.{int_eq};
 ghost use Rattle.bas_ir.specs.Effects as effects;
+ghost use Rattle.bas_ir.specs.declared.ir.Ir.{Ir as Code};
 ghost use Rattle.bas_ir.specs.declared.op.Op.TheVariants.{OpenFor, Until, EndWhile, Return};
 ghost use Rattle.bas_sem.specs.Loops.{goes_round};
 ghost use Rattle.bas_sem.specs.State.{State};
 ghost use Rattle.bas_store.specs.Entries.{cell_of, closer_of, entry_of, lowest};
 ghost use Rattle.bas_store.specs.Opened.{NextOf};
 ghost use Rattle.bas_store.specs.Stored.{most_opened, number_in, or_zero, with_number};
-ghost use Rattle.bas_interp.specs.Machine.{with_memory, IsReady, IsRight, KeepsRoom};
+ghost use Rattle.bas_interp.specs.Machine.{with_memory, IsReady, IsRight, IsAlwaysRight, KeepsRoom};
 ghost use Rattle.bas_interp.specs.Loops.{answer_opened, memory_opened, answer_settled, memory_settled, IsNext, SameStacks};
 
 use crate::act::Next;
@@ -89,7 +90,7 @@ pub(crate) fn open(
 /// FOR, once its start is stored.
 pub(crate) fn open_for(memory: &mut Memory, counter: Counter, after: u32, line: u16) -> Next
     requires { IsReady memory.old }
-    ensures right { IsRight (OpenFor counter line) after result memory.old memory.new }
+    ensures right { (ir : Code) → IsRight ir (OpenFor counter line) after result memory.old memory.new }
     ensures room { KeepsRoom memory.old memory.new }
 {
     let Some(step) = memory.numbers.pop() else {
@@ -177,7 +178,7 @@ fn is_zero(value: i32) -> bool
 /// UNTIL.
 pub(crate) fn until(memory: &mut Memory, line: u16) -> Next
     requires { IsReady memory.old }
-    ensures right { (after : ℕ) → IsRight (Until line) after result memory.old memory.new }
+    ensures right { IsAlwaysRight (Until line) result memory.old memory.new }
     ensures room { KeepsRoom memory.old memory.new }
 {
     let Some(value) = memory.numbers.pop() else {
@@ -195,7 +196,7 @@ pub(crate) fn until(memory: &mut Memory, line: u16) -> Next
 /// ENDWHILE.
 pub(crate) fn end_while(memory: &mut Memory, line: u16) -> Next
     requires { IsReady memory.old }
-    ensures right { (after : ℕ) → IsRight (EndWhile line) after result memory.old memory.new }
+    ensures right { IsAlwaysRight (EndWhile line) result memory.old memory.new }
     ensures room { KeepsRoom memory.old memory.new }
 {
     let Some(found) = memory.opened.nearest(OUTERMOST, ClosingWord::EndWhile) else {
@@ -211,7 +212,7 @@ pub(crate) fn end_while(memory: &mut Memory, line: u16) -> Next
 /// RETURN.
 pub(crate) fn return_from(memory: &mut Memory, line: u16) -> Next
     requires { IsReady memory.old }
-    ensures right { (after : ℕ) → IsRight (Return line) after result memory.old memory.new }
+    ensures right { IsAlwaysRight (Return line) result memory.old memory.new }
     ensures room { KeepsRoom memory.old memory.new }
 {
     let Some(found) = memory.opened.nearest(OUTERMOST, ClosingWord::Return) else {

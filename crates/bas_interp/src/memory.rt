@@ -9,7 +9,8 @@ use bas_value::Column;
 use bv_base::NoMemory;
 use std::alloc::Global;
 
-/// What the operations change, beside the output: the cells, the column, what is pending, and what is open.
+/// What the operations change, beside the output: the cells, the column, the place in DATA, what is pending, and what is
+/// open.
 #[derive(Drop)]
 pub(crate) struct Memory {
     /// A% to Z%, and @%.
@@ -17,6 +18,8 @@ pub(crate) struct Memory {
     /// The integer of each name, `None` where it was never made.
     pub(crate) integers: Vec<Option<i32>>,
     pub(crate) column: Column,
+    /// The place of the next item of DATA.
+    pub(crate) data_place: usize,
     /// The pending numbers.
     pub(crate) numbers: Stack<i32>,
     /// The pending strings, by their places in the table of texts.
@@ -43,6 +46,7 @@ impl Memory {
             residents,
             integers,
             column: Column { at: 0 },
+            data_place: 0,
             numbers,
             texts,
             opened,

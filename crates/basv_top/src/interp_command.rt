@@ -34,6 +34,7 @@ fn take_program<'a, S: Shelf>(
     ensures program { IfOk result (λ prog. (bytes : List ℕ) × Takes (seen_shelf S.Shelf shelf.old) (seen_shelf S.Shelf shelf.new) file.now bytes
         × (length bytes ≤ file_bytes) × Accepted bytes prog) }
     ensures texts { IfOk result (λ prog. AllByRecursion (λ text. length text ≤ LONGEST_TEXT) prog.texts) }
+    ensures data { IfOk result (λ prog. AllByRecursion (λ d. length d.text ≤ LONGEST_TEXT) prog.data_items) }
     ensures none { IfErr result (λ ending. TakeFails (seen_shelf S.Shelf shelf.old) (seen_shelf S.Shelf shelf.new) file.now file_bytes long_file (told ending)
         ⊎ ((bytes : List ℕ) × Takes (seen_shelf S.Shelf shelf.old) (seen_shelf S.Shelf shelf.new) file.now bytes
         × (length bytes ≤ file_bytes) × (NoProgram bytes (told ending) ⊎ (told ending ≡ Refused refusals.NoMemory)))) }
@@ -54,7 +55,8 @@ fn run_program<'a, S: Shelf, O: Sink>(
     shelf: &mut S,
     out: &mut O,
 ) -> Result<RunEnd, Ending<'a>>
-    requires { AllByRecursion (λ text. length text ≤ LONGEST_TEXT) prog.now.texts }
+    requires texts { AllByRecursion (λ text. length text ≤ LONGEST_TEXT) prog.now.texts }
+    requires data { AllByRecursion (λ d. length d.text ≤ LONGEST_TEXT) prog.now.data_items }
     ensures { RunEnds (source_run prog.now input.items (chosen options.entry).steps) (chosen options.entry).arena (chosen options.entry).steps
         (seen_shelf S.Shelf shelf.old) (seen_shelf S.Shelf shelf.new) (seen_sink O.Sink out.old) (seen_sink O.Sink out.new)
         (ended_run result (chosen options.entry).steps) }
@@ -73,7 +75,8 @@ fn run_with<'a, S: Shelf, O: Sink>(
     shelf: &mut S,
     out: &mut O,
 ) -> Result<RunEnd, Ending<'a>>
-    requires { AllByRecursion (λ text. length text ≤ LONGEST_TEXT) prog.now.texts }
+    requires texts { AllByRecursion (λ text. length text ≤ LONGEST_TEXT) prog.now.texts }
+    requires data { AllByRecursion (λ d. length d.text ≤ LONGEST_TEXT) prog.now.data_items }
     ensures { RunsWith (source_run prog.now) (chosen options.entry)
         (seen_shelf S.Shelf shelf.old) (seen_shelf S.Shelf shelf.new) (seen_sink O.Sink out.old) (seen_sink O.Sink out.new)
         (ended_run result (chosen options.entry).steps) }
