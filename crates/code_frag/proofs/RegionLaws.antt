@@ -8,6 +8,7 @@ regions_in_order = record {
   column = refl;
   opened_count = refl;
   depth = refl;
+  next_item = refl;
   words = omega arith;
   cells = omega arith;
   arrays = omega arith;

@@ -51,9 +51,13 @@ opened_count_at = 0x900070
 abbrev pub depth_at : ℕ
 depth_at = 0x900074
 
--- the other words of the state: handler, ERR, ERL, the place of DATA, the address for DIM
+-- the address of the next item of DATA
+abbrev pub next_item_at : ℕ
+next_item_at = 0x900078
+
+-- the other words of the state: handler, ERR, ERL, the address for DIM
 abbrev pub words_start : ℕ
-words_start = 0x900078
+words_start = 0x90007c
 
 -- the integers of names: for each its number and the word that says whether it was made
 abbrev pub cells_start : ℕ
@@ -123,7 +127,8 @@ pub record RegionsInOrder : Type 0 where
   pub residents : residents_start + 4 * 27 ≡ column_at
   pub column : column_at + 4 ≡ opened_count_at
   pub opened_count : opened_count_at + 4 ≡ depth_at
-  pub depth : depth_at + 4 ≡ words_start
+  pub depth : depth_at + 4 ≡ next_item_at
+  pub next_item : next_item_at + 4 ≡ words_start
   pub words : words_start ≤ cells_start
   pub cells : cells_start + 8 * limit.names ≤ arrays_start
   pub arrays : arrays_start + 16 * limit.names ≤ numbers_start

@@ -35,6 +35,18 @@ pub struct EntryCall {
     pub shows_code: bool,
 }
 
+/// What an entry on the items of DATA is called with, and what it leaves: its error, or 0 and R0.
+#[derive(Clone, Copy)]
+pub struct ItemCall {
+    /// Its number.
+    pub entry: u16,
+    /// R0 before.
+    pub item: u32,
+    pub error: u8,
+    /// R0 after, where there is no error.
+    pub result: u32,
+}
+
 /// A word of memory.
 #[derive(Clone, Copy)]
 pub struct Word {
@@ -183,6 +195,11 @@ static SHOW_WORD: [Item; 7] = [
 /// The low byte of R1 is written.
 static SHOW_ERROR: [Item; 2] = [data!(MOV, 0, 0, false, 1), swi!(SWI_WRITE)];
 
+/// R0 is kept in R8, and comes back.
+static KEEP_RESULT: [Item; 1] = [data!(MOV, 8, 0, false, 0)];
+
+static TAKE_RESULT: [Item; 1] = [data!(MOV, 0, 0, false, 8)];
+
 /// R2 comes into R0.
 static TAKE_CODE: [Item; 1] = [data!(MOV, 0, 0, false, 2)];
 
@@ -206,10 +223,10 @@ fn set(frag: &mut Frag, rd: u8, value: u32) -> Result<(), NoMemory>
 
 /// The label of an entry.
 fn label_of(lib: &Lib, entry: u16) -> Label
-    ensures { result.number < 16 }
+    ensures { result.number < 18 }
 {
     for e in &lib.entries {
-        if e.id == entry && e.at.number < 16 {
+        if e.id == entry && e.at.number < 18 {
             return e.at;
         }
     }
@@ -315,6 +332,57 @@ fn add_entry_show(frag: &mut Frag, shows_code: bool, shown: &[Word]) -> Result<(
     add_code_show(frag, shows_code)?;
     add_loads(frag, shown)?;
     frag.emit_all(&END)
+}
+
+/// Adds what calls an entry on the items of DATA, with a word in R1 that is no error.
+fn add_item_call(
+    frag: &mut Frag,
+    call: ItemCall,
+    stored: &[Word],
+    to: Label,
+) -> Result<(), NoMemory>
+    requires { to.number < length frag.old.places }
+    ensures places { OnOk result (frag.new.places ≡ frag.old.places) }
+    ensures few { OnOk result (length frag.new.items ≡ length frag.old.items + 9 * length stored.now + 17) }
+{
+    add_stores(frag, stored)?;
+    set(frag, 11, 0x90_0000)?;
+    set(frag, 13, 0xff_f000)?;
+    set(frag, 0, call.item)?;
+    set(frag, 1, KEPT)?;
+    frag.branch(AL, true, to)
+}
+
+/// Adds what shows words and what an entry on the items of DATA left, and the end of the run.
+fn add_item_show(frag: &mut Frag, shown: &[Word]) -> Result<(), NoMemory>
+    ensures places { OnOk result (frag.new.places ≡ frag.old.places) }
+    ensures few { OnOk result (length frag.new.items ≡ length frag.old.items + 12 * length shown.now + 17) }
+{
+    frag.emit_all(&KEEP_RESULT)?;
+    add_loads(frag, shown)?;
+    frag.emit_all(&TAKE_RESULT)?;
+    frag.emit_all(&SHOW_NUMBER)
+}
+
+/// The words of the library, and then those of a program that calls one of its entries on the items of DATA; and the number of the
+/// library's.
+fn item_code(
+    alloc: Global,
+    call: ItemCall,
+    stored: &[Word],
+    shown: &[Word],
+) -> Result<(Vec<u32>, usize), NoMemory>
+    requires few_stored { length stored.now ≤ 100 }
+    requires few_shown { length shown.now ≤ 100 }
+{
+    let base = IMAGE_START + 4 * WORDS_BEFORE;
+    let mut lib = routines(alloc)?;
+    let before = lib.frag.resolve(alloc, base)?.len();
+    let to = label_of(&lib, call.entry);
+    add_item_call(&mut lib.frag, call, stored, to)?;
+    add_item_show(&mut lib.frag, shown)?;
+    let words = lib.frag.resolve(alloc, base)?;
+    Ok((words, before))
 }
 
 /// The words of the library, and then those of a program that calls one of its entries on open loops and GOSUBs; and the number of
@@ -426,6 +494,28 @@ pub fn leaves(
     }
     for word in words {
         bytes.extend_from_slice(&word.value.to_le_bytes())?;
+    }
+    writes(alloc, &code, before, &bytes, Report::Done)
+}
+
+/// Whether an entry on the items of DATA, called where these words are stored, leaves its error or result, and these words.
+pub fn reads(
+    alloc: Global,
+    call: ItemCall,
+    stored: &[Word],
+    words: &[Word],
+) -> Result<bool, NoMemory> {
+    if stored.len() > 100 || words.len() > 100 {
+        return Ok(false);
+    }
+    let (code, before) = item_code(alloc, call, stored, words)?;
+    let mut bytes = Vec::new(alloc);
+    for word in words {
+        bytes.extend_from_slice(&word.value.to_le_bytes())?;
+    }
+    bytes.push(call.error)?;
+    if call.error == 0 {
+        bytes.extend_from_slice(&call.result.to_le_bytes())?;
     }
     writes(alloc, &code, before, &bytes, Report::Done)
 }

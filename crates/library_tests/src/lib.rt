@@ -4,6 +4,8 @@
 #[cfg(test)]
 mod boards;
 #[cfg(test)]
+mod data;
+#[cfg(test)]
 mod entries;
 #[cfg(test)]
 mod errors;

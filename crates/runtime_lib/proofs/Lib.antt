@@ -8,15 +8,19 @@ mod DivisionProof
 mod EntryParts
 mod EntrySearch
 mod ErrorSearch
+mod ItemNumberProof
 mod Leading
 pub mod LibraryLaws
 mod LineEndProof
+mod NextItemProof
 mod NumberParts
 mod NumberProof
 mod OpeningProof
 mod ProductProof
 mod QuotientProof
 pub mod RangeLaws
+mod ReadingLaws
+mod ReadingParts
 mod RunProof
 mod SignedLaws
 mod SignedParts

@@ -14,10 +14,11 @@ use Rattle.code_frag.proofs.JoinLaws.{stands_shifted, stands-joined, address-joi
 use Rattle.code_frag.proofs.Sound.{entered}
 use Rattle.code_frag.proofs.WordLaws.{label_address}
 use Rattle.runtime_lib.specs.Digits.{decimal_number, hexadecimal_number}
-use Rattle.runtime_lib.specs.Entries.{Routine, Product, Quotient, Modulus, DecimalNumber, HexadecimalNumber, SomeSpaces, LineEnd, StringOut, ClosingText, ToField, ToTab, Run, Division, Opening, ClosingWord, Turning, label_of, routine_of, does_at, LibraryAsks, LibraryDoes}
-use Rattle.runtime_lib.specs.Library.{piece_of, numbers, writers, loops, routines, most_library_words, with_routine, with_routines, no_routines, library, library_labels, labels_from, LibraryStands, LibraryMeets, AsksAfter, DoesAfter}
+use Rattle.runtime_lib.specs.Entries.{Routine, Product, Quotient, Modulus, DecimalNumber, HexadecimalNumber, SomeSpaces, LineEnd, StringOut, ClosingText, ToField, ToTab, Run, Division, Opening, ClosingWord, Turning, NextItem, ItemNumber, label_of, routine_of, does_at, LibraryAsks, LibraryDoes}
+use Rattle.runtime_lib.specs.Library.{piece_of, numbers, writers, loops, readers, routines, most_library_words, with_routine, with_routines, no_routines, library, library_labels, labels_from, LibraryStands, LibraryMeets, AsksAfter, DoesAfter}
 use Rattle.runtime_lib.specs.Routines.{routines_count, routine_items}
 use Rattle.runtime_lib.specs.Loops.{opening, closing_word, turning}
+use Rattle.runtime_lib.specs.Reading.{next_item, item_number}
 use Rattle.runtime_lib.specs.Numbers.{product, quotient, modulus, division}
 use Rattle.runtime_lib.specs.Writing.{some_spaces, line_end, string_out, closing_text, to_field, to_tab, run}
 use Rattle.runtime_lib.proofs.LineEndProof.{line_end_owes}
@@ -33,6 +34,8 @@ use Rattle.runtime_lib.proofs.ProductProof.{product_owes}
 use Rattle.runtime_lib.proofs.OpeningProof.{opening_owes}
 use Rattle.runtime_lib.proofs.ClosingWordProof.{closing_word_owes}
 use Rattle.runtime_lib.proofs.TurningProof.{turning_owes}
+use Rattle.runtime_lib.proofs.NextItemProof.{next_item_owes}
+use Rattle.runtime_lib.proofs.ItemNumberProof.{item_number_owes}
 use Rattle.runtime_lib.proofs.QuotientProof.{quotient_owes, modulus_owes}
 
 -- ---- where each routine stands
@@ -81,7 +84,7 @@ module _ (code entry : ℕ → ℕ) (base : ℕ) where
 
   library_placed : IsCode base (length library.items) → Stands library.items code entry base → ((label : ℕ) → label < routines_count → entry label ≡ base + 4 * place_of library.places label) → AreAllPlaced code entry routines
   unfolding library
-  library_placed lies stands at = all_placed routines no_routines lies stands (at 0 (omega arith), (at 1 (omega arith), (at 2 (omega arith), (at 3 (omega arith), (at 4 (omega arith), (at 5 (omega arith), (at 6 (omega arith), (at 7 (omega arith), (at 8 (omega arith), (at 9 (omega arith), (at 10 (omega arith), (at 11 (omega arith), (at 12 (omega arith), (at 13 (omega arith), (at 14 (omega arith), (at 15 (omega arith), tt))))))))))))))))
+  library_placed lies stands at = all_placed routines no_routines lies stands (at 0 (omega arith), (at 1 (omega arith), (at 2 (omega arith), (at 3 (omega arith), (at 4 (omega arith), (at 5 (omega arith), (at 6 (omega arith), (at 7 (omega arith), (at 8 (omega arith), (at 9 (omega arith), (at 10 (omega arith), (at 11 (omega arith), (at 12 (omega arith), (at 13 (omega arith), (at 14 (omega arith), (at 15 (omega arith), (at 16 (omega arith), (at 17 (omega arith), tt))))))))))))))))))
 
 -- ---- each routine meets its contract
 
@@ -113,6 +116,12 @@ module _ (code entry : ℕ → ℕ) where
 
   turning_meets : Placed code entry Turning → MeetsContract 15
   turning_meets p = entered code entry LibraryAsks LibraryDoes 15 turning refl tt p.lies p.stands (λ s good asked. (turning_owes s good asked).by)
+
+  next_item_meets : Placed code entry NextItem → MeetsContract 16
+  next_item_meets p = entered code entry LibraryAsks LibraryDoes 16 next_item refl tt p.lies p.stands (λ s good asked. (next_item_owes s good asked).by)
+
+  item_number_meets : Placed code entry ItemNumber → MeetsContract 17
+  item_number_meets p = entered code entry LibraryAsks LibraryDoes 17 item_number refl tt p.lies p.stands (λ s good asked. (item_number_owes s good asked).by)
 
   -- those that write spaces
   module _ (runs : MeetsContract 11) where
@@ -160,10 +169,12 @@ module _ (code entry : ℕ → ℕ) where
       let p13 = p12.1 in
       let p14 = p13.1 in
       let p15 = p14.1 in
+      let p16 = p15.1 in
+      let p17 = p16.1 in
       let runs = run_meets p11.0 in
       let divides = division_meets p12.0 in
       let decimal = decimal_number_meets runs p3.0 in
-      (product_meets p0.0, (quotient_meets divides p1.0, (modulus_meets divides p2.0, (decimal, (hexadecimal_number_meets runs p4.0, (some_spaces_meets runs p5.0, (line_end_meets p6.0, (string_out_meets p7.0, (closing_text_meets decimal p8.0, (to_field_meets runs p9.0, (to_tab_meets runs p10.0, (runs, (divides, (opening_meets p13.0, (closing_word_meets p14.0, (turning_meets p15.0, tt))))))))))))))))
+      (product_meets p0.0, (quotient_meets divides p1.0, (modulus_meets divides p2.0, (decimal, (hexadecimal_number_meets runs p4.0, (some_spaces_meets runs p5.0, (line_end_meets p6.0, (string_out_meets p7.0, (closing_text_meets decimal p8.0, (to_field_meets runs p9.0, (to_tab_meets runs p10.0, (runs, (divides, (opening_meets p13.0, (closing_word_meets p14.0, (turning_meets p15.0, (next_item_meets p16.0, (item_number_meets p17.0, tt))))))))))))))))))
 
 -- ---- under other labels
 
@@ -186,6 +197,8 @@ leads_to_none (Some Division) s k t d = let f = d.falls in cc
 leads_to_none (Some Opening) s k t d = let f = d.comes_back.falls in cc
 leads_to_none (Some ClosingWord) s k t d = let f = d.comes_back.falls in cc
 leads_to_none (Some Turning) s k t d = let f = d.comes_back.falls in cc
+leads_to_none (Some NextItem) s k t d = let f = d.falls in cc
+leads_to_none (Some ItemNumber) s k t d = let f = d.falls in cc
 
 -- one of some labels
 one_meets : (code entry : ℕ → ℕ) (n first label : ℕ) → label < n → MeetEach code entry LibraryAsks LibraryDoes (labels_from n first) → Meets code entry LibraryAsks LibraryDoes (first + label)
@@ -225,7 +238,7 @@ placed_there (None ∷ ps) label all within = absurd (false≢true all)
 placed_there (Some p ∷ ps) zero all within = refl
 placed_there (Some p ∷ ps) (suc label) all within = placed_there ps label all (omega (arith, within))
 
-pub library-made : with_routines loops (with_routines writers (with_routines numbers no_routines)) ≡ library
+pub library-made : with_routines readers (with_routines loops (with_routines writers (with_routines numbers no_routines))) ≡ library
 unfolding library
 library-made = refl
 

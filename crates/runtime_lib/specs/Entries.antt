@@ -10,6 +10,8 @@ use Rattle.bv_run.specs.declared.report.Report.TheVariants.{Failed}
 use Rattle.arm_core.specs.Core.{Core, word}
 use Rattle.code_frag.specs.Demands.{ToEnd, Out, Falls, Leaves}
 use Rattle.code_frag.specs.Regions.{error_texts_start, residents_start, column_at, stack_start, stack_end, texts_register, base_register, stack_register}
+use Rattle.bv_num.specs.Value.{data_value}
+use Rattle.runtime_lib.specs.Data.{CanTakeItem, TakesNext}
 use Rattle.runtime_lib.specs.Opened.{CanUseEntries, Opens, CanCloseEntry, ClosesLatest, CanTurn, TurnsLatest}
 
 -- ---- numbers
@@ -127,6 +129,7 @@ pub data Routine : Type 0 where
   SomeSpaces LineEnd StringOut ClosingText ToField ToTab : Routine
   Run Division : Routine
   Opening ClosingWord Turning : Routine
+  NextItem ItemNumber : Routine
 
 -- the label of a routine
 abbrev pub label_of : Routine → ℕ
@@ -146,10 +149,12 @@ label_of Division = 12
 label_of Opening = 13
 label_of ClosingWord = 14
 label_of Turning = 15
+label_of NextItem = 16
+label_of ItemNumber = 17
 
 -- the routine of a label
 abbrev pub routine_of : ℕ → Option Routine
-routine_of label = slice_get (Product ∷ Quotient ∷ Modulus ∷ DecimalNumber ∷ HexadecimalNumber ∷ SomeSpaces ∷ LineEnd ∷ StringOut ∷ ClosingText ∷ ToField ∷ ToTab ∷ Run ∷ Division ∷ Opening ∷ ClosingWord ∷ Turning ∷ []) label
+routine_of label = slice_get (Product ∷ Quotient ∷ Modulus ∷ DecimalNumber ∷ HexadecimalNumber ∷ SomeSpaces ∷ LineEnd ∷ StringOut ∷ ClosingText ∷ ToField ∷ ToTab ∷ Run ∷ Division ∷ Opening ∷ ClosingWord ∷ Turning ∷ NextItem ∷ ItemNumber ∷ []) label
 
 -- what a routine asks: a string is whole in memory
 abbrev pub routine_asks : Routine → Core → Type 0
@@ -163,11 +168,13 @@ routine_asks Division s = 0 < s.regs 1
 routine_asks Opening s = CanUseEntries s
 routine_asks ClosingWord s = CanCloseEntry s
 routine_asks Turning s = CanTurn s
+routine_asks NextItem s = CanTakeItem s
+routine_asks ItemNumber s = s.regs 0 + 256 ≤ ram_end
 routine_asks _ s = CanWrite s
 
 -- What a routine leaves. The left operand of an operation is in R1 and the right one in R0; a number that is written, or the
 -- address of a string, is in R0; in R1 is 0 where a number is written as it is, and not in ten columns. What those of loops and GOSUBs
--- find in registers is said with them.
+-- find in registers is said with them. The address of an item of DATA is in R0.
 abbrev pub routine_does : Routine → Core → Out → Core → Type 0
 routine_does Product s o t = Calculates (operation Multiply (number_in s 1) (number_in s 0)) s o t
 routine_does Quotient s o t = Calculates (operation Divide (number_in s 1) (number_in s 0)) s o t
@@ -185,6 +192,8 @@ routine_does Division s o t = Divides s o t
 routine_does Opening s o t = Opens s o t
 routine_does ClosingWord s o t = ClosesLatest s o t
 routine_does Turning s o t = TurnsLatest s o t
+routine_does NextItem s o t = TakesNext s o t
+routine_does ItemNumber s o t = Calculates (data_value (text_at s.mem (s.regs 0))) s o t
 
 -- a label without a routine is not called
 abbrev pub asks_at : Option Routine → Core → Type 0

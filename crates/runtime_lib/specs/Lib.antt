@@ -4,5 +4,7 @@ pub mod Library
 pub mod Loops
 pub mod Numbers
 pub mod Opened
+pub mod Data
+pub mod Reading
 pub mod Routines
 pub mod Writing

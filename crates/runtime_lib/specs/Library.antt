@@ -7,9 +7,10 @@ use Rattle.code_frag.specs.Language.{Piece}
 use Rattle.code_frag.specs.Runs.{Stands, IsCode, Meets}
 use Rattle.code_frag.specs.Words.{FragState, place_of}
 use Rattle.runtime_lib.specs.Digits.{decimal_number, hexadecimal_number}
-use Rattle.runtime_lib.specs.Entries.{Routine, Product, Quotient, Modulus, DecimalNumber, HexadecimalNumber, SomeSpaces, LineEnd, StringOut, ClosingText, ToField, ToTab, Run, Division, Opening, ClosingWord, Turning, label_of, LibraryAsks, LibraryDoes}
+use Rattle.runtime_lib.specs.Entries.{Routine, Product, Quotient, Modulus, DecimalNumber, HexadecimalNumber, SomeSpaces, LineEnd, StringOut, ClosingText, ToField, ToTab, Run, Division, Opening, ClosingWord, Turning, NextItem, ItemNumber, label_of, LibraryAsks, LibraryDoes}
 use Rattle.runtime_lib.specs.Loops.{opening, closing_word, turning}
 use Rattle.runtime_lib.specs.Numbers.{product, quotient, modulus, division}
+use Rattle.runtime_lib.specs.Reading.{next_item, item_number}
 use Rattle.runtime_lib.specs.Routines.{routines_count, with_piece}
 use Rattle.runtime_lib.specs.Writing.{some_spaces, line_end, string_out, closing_text, to_field, to_tab, run}
 
@@ -31,9 +32,11 @@ piece_of Division = division
 piece_of Opening = opening
 piece_of ClosingWord = closing_word
 piece_of Turning = turning
+piece_of NextItem = next_item
+piece_of ItemNumber = item_number
 
--- the routines in the order of their labels: those on numbers, those that write, with those that they call, and those on open loops
--- and GOSUBs
+-- the routines in the order of their labels: those on numbers, those that write, with those that they call, those on open loops and
+-- GOSUBs, and those on the items of DATA
 abbrev pub numbers : List Routine
 numbers = Product ∷ Quotient ∷ Modulus ∷ DecimalNumber ∷ HexadecimalNumber ∷ []
 
@@ -43,8 +46,11 @@ writers = SomeSpaces ∷ LineEnd ∷ StringOut ∷ ClosingText ∷ ToField ∷ T
 abbrev pub loops : List Routine
 loops = Opening ∷ ClosingWord ∷ Turning ∷ []
 
+abbrev pub readers : List Routine
+readers = NextItem ∷ ItemNumber ∷ []
+
 abbrev pub routines : List Routine
-routines = numbers ++ (writers ++ loops)
+routines = numbers ++ (writers ++ (loops ++ readers))
 
 -- a fragment with a routine at its end, where the routine's label has its place
 abbrev pub with_routine : Routine → FragState → FragState
@@ -75,7 +81,7 @@ entry_of id r = record { id = id; at = record { number = label_of r } }
 abbrev pub library_entries : List Entry
 library_entries =
     entry_of 1 Product ∷ entry_of 2 Quotient ∷ entry_of 3 Modulus ∷ entry_of 4 DecimalNumber ∷ entry_of 5 HexadecimalNumber ∷ entry_of 6 SomeSpaces ∷ entry_of 7 LineEnd
-    ∷ entry_of 8 StringOut ∷ entry_of 9 ClosingText ∷ entry_of 10 Opening ∷ entry_of 11 ClosingWord ∷ entry_of 17 ToField ∷ entry_of 18 ToTab ∷ entry_of 19 Turning ∷ []
+    ∷ entry_of 8 StringOut ∷ entry_of 9 ClosingText ∷ entry_of 10 Opening ∷ entry_of 11 ClosingWord ∷ entry_of 14 NextItem ∷ entry_of 15 ItemNumber ∷ entry_of 17 ToField ∷ entry_of 18 ToTab ∷ entry_of 19 Turning ∷ []
 
 -- ---- the library in a memory
 

@@ -6,7 +6,7 @@ use Rattle.code_frag.specs.Words.{FragState}
 
 -- the number of routines, and of their labels
 abbrev pub routines_count : ℕ
-routines_count = 16
+routines_count = 18
 
 -- the items of a routine
 abbrev pub routine_items : Piece → List Item

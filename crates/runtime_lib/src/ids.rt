@@ -33,6 +33,12 @@ pub const OPENING: u16 = 10;
 /// UNTIL, ENDWHILE and RETURN.
 pub const CLOSING_WORD: u16 = 11;
 
+/// The next item of DATA.
+pub const NEXT_ITEM: u16 = 14;
+
+/// The number of an item of DATA.
+pub const ITEM_NUMBER: u16 = 15;
+
 /// A comma.
 pub const TO_FIELD: u16 = 17;
 

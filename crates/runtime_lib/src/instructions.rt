@@ -13,6 +13,9 @@ pub const COUNT: u16 = 112;
 /// Where the depth of the call that runs stands, likewise.
 pub const DEPTH: u16 = 116;
 
+/// Where the address of the next item of DATA stands, likewise.
+pub const NEXT_ADDRESS: u16 = 120;
+
 /// The field of the immediate 2^31.
 pub const TOP_BIT: u16 = 0x102;
 
@@ -213,6 +216,27 @@ macro_rules! call {
     };
 }
 
+/// The items of the answer of a magnitude in R0 and a sign in R5, between others.
+macro_rules! answered {
+    (before [$($before:expr),*], after [$($after:expr),*]) => {
+        [
+            $($before,)*
+            mov!(1, num 0),
+            cmp!(5, num 0),
+            branch!(EQ, 4),
+            cmp!(0, num TOP_BIT),
+            branch!(LS, 0),
+            mov!(1, num TOO_BIG as u16),
+            rsb!(0, 0, num 0),
+            branch!(AL, 2),
+            cmp!(0, num TOP_BIT),
+            branch!(CC, 0),
+            mov!(1, num TOO_BIG as u16),
+            $($after,)*
+        ]
+    };
+}
+
 /// The end of a routine: to the address in R14.
 macro_rules! back {
     () => {
@@ -221,6 +245,7 @@ macro_rules! back {
 }
 
 pub(crate) use add;
+pub(crate) use answered;
 pub(crate) use back;
 pub(crate) use branch;
 pub(crate) use call;

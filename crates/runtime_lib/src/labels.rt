@@ -48,3 +48,9 @@ pub const CLOSING_WORD: Label = Label { number: 14 };
 
 /// NEXT.
 pub const TURNING: Label = Label { number: 15 };
+
+/// The next item of DATA.
+pub const NEXT_ITEM: Label = Label { number: 16 };
+
+/// The number of an item of DATA.
+pub const ITEM_NUMBER: Label = Label { number: 17 };

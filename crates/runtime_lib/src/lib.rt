@@ -1,7 +1,8 @@
 //! The run-time library: routines of ARM code for what the code of a program does not do in words of its own. Each entry has a
-//! relation over the definitions of numbers and of output, or over the open loops and GOSUBs in memory.
+//! relation over the definitions of numbers and of output, or over the open loops, GOSUBs and items of DATA in memory.
 #![tactic(auto)]
 
+mod data;
 mod digits;
 mod errors;
 pub mod ids;
@@ -13,6 +14,7 @@ mod loops;
 mod numbers;
 mod writing;
 
+pub use data::{emit_item_number, emit_next_item};
 pub use digits::{emit_decimal_number, emit_hexadecimal_number};
 pub use errors::error_table;
 pub use laws::library_meets;

@@ -1,15 +1,17 @@
 //! The library: all routines, and where its entries are.
 ghost use Rattle.std.specs.Prelude.{◌≡◌, ◌≤◌, [], ◌∷◌, length, replicate, None, OnOk, IfOk};
 ghost use Rattle.code_frag.specs.Words.{IsOpen, AllPlaced};
-ghost use Rattle.runtime_lib.specs.Entries.{Product, Quotient, Modulus, DecimalNumber, HexadecimalNumber, SomeSpaces, LineEnd, StringOut, ClosingText, ToField, ToTab, Run, Division, Opening, ClosingWord, Turning, label_of};
-ghost use Rattle.runtime_lib.specs.Library.{with_routine, with_routines, numbers, writers, loops, no_routines, library, library_entries, most_library_words};
+ghost use Rattle.runtime_lib.specs.Entries.{Product, Quotient, Modulus, DecimalNumber, HexadecimalNumber, SomeSpaces, LineEnd, StringOut, ClosingText, ToField, ToTab, Run, Division, Opening, ClosingWord, Turning, NextItem, ItemNumber, label_of};
+ghost use Rattle.runtime_lib.specs.Library.{with_routine, with_routines, numbers, writers, loops, readers, no_routines, library, library_entries, most_library_words};
 ghost use Rattle.runtime_lib.specs.Routines.{routines_count};
 
+use crate::data::{emit_item_number, emit_next_item};
 use crate::digits::{emit_decimal_number, emit_hexadecimal_number};
 use crate::ids;
 use crate::labels::{
-    CLOSING_TEXT, CLOSING_WORD, DECIMAL_NUMBER, DIVISION, HEXADECIMAL_NUMBER, LINE_END, MODULUS,
-    OPENING, PRODUCT, QUOTIENT, RUN, SOME_SPACES, STRING_OUT, TO_FIELD, TO_TAB, TURNING,
+    CLOSING_TEXT, CLOSING_WORD, DECIMAL_NUMBER, DIVISION, HEXADECIMAL_NUMBER, ITEM_NUMBER,
+    LINE_END, MODULUS, NEXT_ITEM, OPENING, PRODUCT, QUOTIENT, RUN, SOME_SPACES, STRING_OUT,
+    TO_FIELD, TO_TAB, TURNING,
 };
 use crate::loops::{emit_closing_word, emit_opening, emit_turning};
 use crate::numbers::{emit_division, emit_modulus, emit_product, emit_quotient};
@@ -22,7 +24,7 @@ use code_frag::{Entry, Frag, Lib};
 use std::alloc::Global;
 
 /// The number of routines, and of their labels.
-const ROUTINES: usize = 16;
+const ROUTINES: usize = 18;
 
 /// A fragment with the routines' labels, which have no places yet.
 fn with_labels(alloc: Global) -> Result<Frag, NoMemory>
@@ -195,6 +197,26 @@ fn add_turning(frag: &mut Frag) -> Result<(), NoMemory>
     emit_turning(frag)
 }
 
+/// Adds the routine of the next item of DATA at its label.
+fn add_next_item(frag: &mut Frag) -> Result<(), NoMemory>
+    requires open { IsOpen frag.old (label_of NextItem) }
+    requires labels { length frag.old.places ≡ routines_count }
+    ensures { OnOk result (frag.new ≡ with_routine NextItem frag.old) }
+{
+    frag.place(NEXT_ITEM);
+    emit_next_item(frag)
+}
+
+/// Adds the routine of an item's number at its label.
+fn add_item_number(frag: &mut Frag) -> Result<(), NoMemory>
+    requires open { IsOpen frag.old (label_of ItemNumber) }
+    requires labels { length frag.old.places ≡ routines_count }
+    ensures { OnOk result (frag.new ≡ with_routine ItemNumber frag.old) }
+{
+    frag.place(ITEM_NUMBER);
+    emit_item_number(frag)
+}
+
 /// Adds the routines on numbers.
 fn add_numbers(frag: &mut Frag) -> Result<(), NoMemory>
     requires { frag.old ≡ no_routines }
@@ -230,6 +252,15 @@ fn add_loops(frag: &mut Frag) -> Result<(), NoMemory>
     add_opening(frag)?;
     add_closing_word(frag)?;
     add_turning(frag)
+}
+
+/// Adds the routines on the items of DATA.
+fn add_readers(frag: &mut Frag) -> Result<(), NoMemory>
+    requires { frag.old ≡ with_routines loops (with_routines writers (with_routines numbers no_routines)) }
+    ensures { OnOk result (frag.new ≡ with_routines readers (with_routines loops (with_routines writers (with_routines numbers no_routines)))) }
+{
+    add_next_item(frag)?;
+    add_item_number(frag)
 }
 
 /// The entries: their numbers, and their labels.
@@ -284,6 +315,14 @@ fn entries(alloc: Global) -> Result<Vec<Entry>, NoMemory>
                 at: CLOSING_WORD,
             },
             Entry {
+                id: ids::NEXT_ITEM,
+                at: NEXT_ITEM,
+            },
+            Entry {
+                id: ids::ITEM_NUMBER,
+                at: ITEM_NUMBER,
+            },
+            Entry {
                 id: ids::TO_FIELD,
                 at: TO_FIELD,
             },
@@ -311,6 +350,7 @@ pub fn routines(alloc: Global) -> Result<Lib, NoMemory>
     add_numbers(&mut frag)?;
     add_writers(&mut frag)?;
     add_loops(&mut frag)?;
+    add_readers(&mut frag)?;
     Ok(Lib {
         frag,
         entries: entries(alloc)?,

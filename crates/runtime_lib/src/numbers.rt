@@ -4,7 +4,7 @@ ghost use Rattle.runtime_lib.specs.Routines.{routines_count, with_piece};
 ghost use Rattle.runtime_lib.specs.Numbers.{product, quotient, modulus, division};
 
 use crate::instructions::{
-    TOP_BIT, add, back, branch, call, cmp, data, data_if, mov, mul, rsb, sub,
+    TOP_BIT, add, answered, back, branch, call, cmp, data, data_if, mov, mul, rsb, sub,
 };
 use crate::labels::DIVISION;
 use arm_isa::Instr;
@@ -65,35 +65,25 @@ pub fn emit_division(frag: &mut Frag) -> Result<(), NoMemory>
 /// operation on them; the answer; and what comes last.
 macro_rules! operation {
     (first [$($first:expr),*], sign $words:expr, [$($sign:expr),*], magnitudes [$($magnitudes:expr),*], last [$($last:expr),*]) => {
-        [
-            $($first,)*
-            mov!(5, num 0),
-            cmp!(1, num TOP_BIT),
-            branch!(CC, 1),
-            rsb!(1, 1, num 0),
-            mov!(5, num 1),
-            cmp!(0, num TOP_BIT),
-            branch!(CC, $words),
-            rsb!(0, 0, num 0),
-            $($sign,)*
-            mov!(2, reg 0),
-            mov!(0, reg 1),
-            mov!(1, reg 2),
-            $($magnitudes,)*
-            mov!(1, num 0),
-            cmp!(5, num 0),
-            branch!(EQ, 4),
-            cmp!(0, num TOP_BIT),
-            branch!(LS, 0),
-            mov!(1, num TOO_BIG as u16),
-            rsb!(0, 0, num 0),
-            branch!(AL, 2),
-            cmp!(0, num TOP_BIT),
-            branch!(CC, 0),
-            mov!(1, num TOO_BIG as u16),
-            $($last,)*
-            back!(),
-        ]
+        answered!(
+            before [
+                $($first,)*
+                mov!(5, num 0),
+                cmp!(1, num TOP_BIT),
+                branch!(CC, 1),
+                rsb!(1, 1, num 0),
+                mov!(5, num 1),
+                cmp!(0, num TOP_BIT),
+                branch!(CC, $words),
+                rsb!(0, 0, num 0),
+                $($sign,)*
+                mov!(2, reg 0),
+                mov!(0, reg 1),
+                mov!(1, reg 2)
+                $(, $magnitudes)*
+            ],
+            after [$($last,)* back!()]
+        )
     };
 }
 
