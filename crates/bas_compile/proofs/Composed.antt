@@ -1,5 +1,8 @@
 -- An image of an accepted program's words is what its file compiles to, and refusals exclude each other.
-use Rattle.std.proofs.Common.{◌≡◌, ℕ, ◌≤◌, List, sym, subst, arith}
+use Rattle.std.proofs.Common.{◌≡◌, ℕ, ◌≤◌, List, [], ◌∷◌, length, sym, subst, arith}
+use Rattle.std.specs.Prelude.{map}
+use Rattle.std.specs.List.{AllByRecursion}
+use Rattle.bas_ast.specs.declared.program.DataItem.{DataItem}
 use Rattle.bas_ast.specs.declared.program.Prog.{Prog}
 use Rattle.bas_compile.specs.Correct.{CompilesTo}
 use Rattle.bas_ir.specs.declared.ir.Ir.{Ir}
@@ -20,6 +23,17 @@ use Rattle.profile_check.proofs.FileVerdicts.{size_within, accepted_once}
 -- the size of an accepted program
 pub size_short : (bytes : List ℕ) (prog : Prog) → Accepted bytes prog → prog.size ≤ file_bytes
 size_short bytes prog a = let within = size_within bytes a.lines a.read in let size = a.program.size in let short = a.short in omega (arith, within, size, short)
+
+texts_short : (most : ℕ) (items : List DataItem) → AllByRecursion (λ (d : DataItem). length d.text ≤ most) items
+    → AllByRecursion (λ (text : List ℕ). length text ≤ most) (map (λ d. d.text) items)
+texts_short most [] short = tt
+texts_short most (d ∷ ds) short = (short.0, texts_short most ds short.1)
+
+-- the items of DATA of a flat code are no longer than those of its program
+pub data_short : (most : ℕ) (prog : Prog) (ir : Ir) → ir ≡ flat_code prog → AllByRecursion (λ (d : DataItem). length d.text ≤ most) prog.data_items
+    → AllByRecursion (λ (text : List ℕ). length text ≤ most) ir.data_items
+data_short most prog ir is short =
+    subst (λ (i : Ir). AllByRecursion (λ (text : List ℕ). length text ≤ most) i.data_items) (sym is) (texts_short most prog.data_items short)
 
 -- contents that are an image of words that agree
 pub compiles : (bytes contents words : List ℕ) (prog : Prog) → Accepted bytes prog → AreWords words → ImageOf contents words → Agrees (source_run prog) words → CompilesTo bytes contents

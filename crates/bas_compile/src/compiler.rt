@@ -25,6 +25,7 @@ use std::alloc::Global;
 fn image_of(alloc: Global, prog: &Prog) -> Result<Vec<u32>, NoMemory>
     requires well_formed { WellFormed prog.now }
     requires texts { AllByRecursion (λ text. length text ≤ LONGEST_TEXT) prog.now.texts }
+    requires data { AllByRecursion (λ d. length d.text ≤ LONGEST_TEXT) prog.now.data_items }
     requires size { prog.now.size ≤ file_bytes }
     ensures agrees { IfOk result (λ words. Agrees (source_run prog.now) words.items) }
     ensures are_words { IfOk result (λ words. AreWords words.items) }

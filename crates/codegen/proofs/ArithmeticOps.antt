@@ -1,5 +1,5 @@
 -- The operators, but for shifts.
-use Rattle.std.proofs.Common.{◌≡◌, ℕ, ◌+◌, ◌-◌, ◌^◌, ◌<◌, ◌≤◌, ◌==◌, ◌⊎◌, inl, inr, not, Bool, true, false, ℤ, pos, negsuc, ◌+ℤ◌, ◌-ℤ◌, Result, Ok, Err, None, refl, sym, ap, subst, ◌∙◌, arith, bit_and, bit_or, bit_xor, eqb-true}
+use Rattle.std.proofs.Common.{◌≡◌, ℕ, ◌+◌, ◌-◌, ◌^◌, ◌<◌, ◌≤◌, ◌==◌, not, Bool, true, false, ℤ, pos, negsuc, ◌+ℤ◌, ◌-ℤ◌, Result, Ok, Err, None, refl, sym, ap, subst, ◌∙◌, arith, bit_and, bit_or, bit_xor, eqb-true}
 use Rattle.std.proofs.lemmas.Bool.{eqb-false, not-true, not-false}
 use Rattle.std.proofs.lemmas.Nat.{and_le_l, or_lt, xor_lt}
 use Rattle.std.proofs.Math.Path.{transport}
@@ -39,7 +39,7 @@ use Rattle.codegen.specs.Outcomes.{Arrives}
 use Rattle.codegen.specs.StandsFor.{Site, Holds, Numbers, Texts}
 use Rattle.codegen.proofs.Arriving.{CodeAsks, CodeDoes, Free, with_top, short_then, over_by, raise_over, raised, raise_by}
 use Rattle.runtime_lib.proofs.RangeLaws.{in_range-word, in_range-no_word}
-use Rattle.codegen.proofs.NumberFacts.{sum-is, difference-is, bits-are, less-is, less_or_equal-is, equal-is, operation-errors, signed-fits, negated-is, complement-is, abs-negative, abs-positive, sign_by, sign-is, never-both, neither}
+use Rattle.codegen.proofs.NumberFacts.{sum-is, difference-is, bits-are, less-is, less_or_equal-is, equal-is, IsKnown, operation-errors, signed-fits, negated-is, complement-is, abs-negative, abs-positive, sign_by, sign-is, never-both, neither}
 
 -- what an operator comes to
 abbrev pub computed : Result ℤ ℕ → ℕ → Pending → State → Course Effect
@@ -58,14 +58,14 @@ computed_over p st result error line unhandled is =
 -- where registers that hold nothing of the state, and flags, are changed
 pub free_same : {image : Site} {p : Pending} {st : State} {s t : Core} → Free image p st s → ((k : ℕ) → 9 ≤ k → k ≤ 13 → t.regs k ≡ s.regs k) → t.mem ≡ s.mem → t.out ≡ s.out → Free image p st t
 free_same {image} {p} {st} {s} {t} f kept mem out = record {
-  holds = transport (λ i. Holds image.branches st (sym (kept 11 (omega arith) (omega arith)) i) (sym (kept 13 (omega arith) (omega arith)) i) (sym mem i) (sym out i)) f.holds;
+  holds = transport (λ i. Holds image.branches image.table st (sym (kept 11 (omega arith) (omega arith)) i) (sym (kept 13 (omega arith) (omega arith)) i) (sym mem i) (sym out i)) f.holds;
   numbers = transport (λ i. Numbers (sym mem i) (sym (kept 12 (omega arith) (omega arith)) i + 4) (word (sym mem i) (sym (kept 12 (omega arith) (omega arith)) i)) p.numbers) f.numbers;
   texts = transport (λ i. Texts image.bytes (sym mem i) (sym (kept 9 (omega arith) (omega arith)) i) (sym (kept 10 (omega arith) (omega arith)) i) p.texts) f.texts;
 }
 
 module _ {image : Site} {st : State} {s : Core} where
   -- the error "number too big" where V is set
-  pub too_big_by : {Q : Post} (p : Pending) (z : ℤ) (result : Result ℤ ℕ) (line : ℕ) → result ≡ in_range z → line < 65536 → Holds image.branches st (s.regs 11) (s.regs 13) s.mem s.out → s.v ≡ not (is_signed_word z)
+  pub too_big_by : {Q : Post} (p : Pending) (z : ℤ) (result : Result ℤ ℕ) (line : ℕ) → result ≡ in_range z → line < 65536 → Holds image.branches image.table st (s.regs 11) (s.regs 13) s.mem s.out → s.v ≡ not (is_signed_word z)
       → ((t : Core) → Arrives image (computed result line p st) (Leaves (ToLabel raise_label)) t → Q (Leaves (ToLabel raise_label)) t) → (is_signed_word z ≡ true → Q demands.Falls s)
       → Owes CodeAsks CodeDoes (raise_if_too_big line ⨾ Skip) Q s
   too_big_by p z result line is fits h flag over then_falls =
@@ -88,23 +88,19 @@ module _ {image : Site} {p : Pending} {st : State} {s : Core} where
       skip_where_then e (end_here (computed_end result line (pos 0) is f (ap signed none)))
 
   -- a routine of the library, whose result or error is in R0 or R1
-  pub answered_end : (o : Operation) (x y : ℤ) (result : Result ℤ ℕ) (line : ℕ) → result ≡ operation o x y → line < 65536 → Free image p st s → Answers result s → Owes CodeAsks CodeDoes (raise_if_failed line ⨾ Skip) (Arrives image (computed result line p st)) s
-  answered_end o x y (Ok value) line is fits f a =
+  pub answered_end : (result : Result ℤ ℕ) (line : ℕ) → ((error : ℕ) → result ≡ Err error → IsKnown error) → line < 65536 → Free image p st s → Answers result s → Owes CodeAsks CodeDoes (raise_if_failed line ⨾ Skip) (Arrives image (computed result line p st)) s
+  answered_end (Ok value) line errors fits f a =
       seq_then (test_then (compared (s.regs 1) 0) refl refl
       (seq_then (when_then
       (λ e. absurd (eqb-false (s.regs 1) 0 (not-true (s.regs 1 == 0) (sym (after-ne (s.regs 1) 0 s (omega (arith, a.0)) (omega arith)) ∙ e)) a.0))
       (λ e. skip_then (end_here (computed_end (Ok value) line value refl (record { holds = f.holds; numbers = f.numbers; texts = f.texts }) a.1))))))
-  answered_end o x y (Err error) line is fits f a =
-      let known = either-known (operation-errors o x y error (sym is)) in
+  answered_end (Err error) line errors fits f a =
+      let known = errors error refl in
       seq_then (test_then (compared (s.regs 1) 0) refl refl
       (seq_then (when_then
       (λ e. set_then (s.regs 1) refl refl (short_then line (omega (arith, fits)) (leave_then
       (raised (computed (Err error) line p st) error line (computed_over p st (Err error) error line f.holds.unhandled refl) (omega (arith, known)) fits f.holds a refl))))
       (λ e. absurd (let z = eqb-true (s.regs 1) 0 (not-false (s.regs 1 == 0) (sym (after-ne (s.regs 1) 0 s (omega (arith, a, known)) (omega arith)) ∙ e)) in omega (arith, z, a, known))))))
-    where
-      either-known : (error ≡ division_by_zero) ⊎ (error ≡ too_big) → (0 < error) × (error < 256)
-      either-known (inl e) = (omega (arith, e), omega (arith, e))
-      either-known (inr e) = (omega (arith, e), omega (arith, e))
 
 -- ---- the operators between R1 and R0
 
@@ -171,7 +167,7 @@ module _ {image : Site} {p : Pending} {st : State} {s : Core} (good : IsGood s) 
   called : (o : Operation) (result : Result ℤ ℕ) → result ≡ operation o (signed (s.regs 1)) (signed (s.regs 0)) → (t : Core) (r : ℕ) → Calculates result (put 14 r s) demands.Falls t
       → Owes CodeAsks CodeDoes (raise_if_failed line ⨾ Skip) (Arrives image (computed result line p st)) t
   called o result is t r d =
-      answered_end o (signed (s.regs 1)) (signed (s.regs 0)) result line is fits (free_same {s = put 14 r s} (record { holds = f.holds; numbers = f.numbers; texts = f.texts }) d.kept d.mem d.out) d.answers
+      answered_end result line (λ error e. operation-errors o (signed (s.regs 1)) (signed (s.regs 0)) error (sym is ∙ e)) fits (free_same {s = put 14 r s} (record { holds = f.holds; numbers = f.numbers; texts = f.texts }) d.kept d.mem d.out) d.answers
 
   pub product_owes : Owed op.Multiply
   product_owes = call_then {e = 1} (λ r low. tt) (λ r t low good_t d. called operations.Multiply _ refl t r d) (λ r l t low good_t d. absurd (let e = d.falls in cc))

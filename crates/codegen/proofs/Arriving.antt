@@ -14,18 +14,18 @@ use Rattle.bv_run.specs.declared.report.Report.TheVariants.{Failed}
 use Rattle.arm_isa.proofs.ImmediateLaws.{immediate_value-byte, gives_byte_1, gives_byte_2, gives_byte_3}
 use Rattle.arm2_alu.proofs.RegisterLaws.{updated}
 use Rattle.arm_core.specs.Core.{Core, IsGood, put, word, put_word}
-use Rattle.arm_core.proofs.MemoryWords.{updated-same, byte-put_other}
+use Rattle.arm_core.proofs.MemoryWords.{updated-same, byte-put_other, word-same}
 use Rattle.code_frag.specs.Demands.{Out, Post, Leaves, ToLabel, on_falls, Owes}
 use Rattle.code_frag.specs.Language as language
 use Rattle.code_frag.specs.Language.{Seq, Skip, ◌⨾◌}
-use Rattle.code_frag.specs.Regions.{numbers_end}
+use Rattle.code_frag.specs.Regions.{numbers_start, numbers_end, stack_start}
 use Rattle.code_frag.proofs.Rules.{end_here, seq_then, skip_then, set_then, push_then, pull_then, leave_then}
 use Rattle.runtime_lib.specs.Library.{AsksAfter, DoesAfter}
 use Rattle.codegen.specs.Operations as code
 use Rattle.codegen.specs.Operations.{load, load_short, make_room, drop, raise_label}
 use Rattle.codegen.specs.Outcomes.{Arrives}
 use Rattle.codegen.specs.StandsFor.{Site, Holds, Numbers, Texts, StandsFor}
-use Rattle.codegen.proofs.PendingLaws.{numbers_room, numbers_pushed, texts_kept, texts_room}
+use Rattle.codegen.proofs.PendingLaws.{numbers_room, numbers_kept, numbers_pushed, texts_kept, texts_room}
 use Rattle.codegen.proofs.StateLaws.{holds_stored}
 
 -- ---- the contracts of the labels that pieces call: those of the library, which come after that of the program's beginning
@@ -40,7 +40,7 @@ CodeDoes = DoesAfter 1
 
 -- The pending numbers are all in memory, and R0 may hold anything.
 pub record Free (image : Site) (p : Pending) (st : State) (s : Core) : Type 0 where
-  pub holds : Holds image.branches st (s.regs 11) (s.regs 13) s.mem s.out
+  pub holds : Holds image.branches image.table st (s.regs 11) (s.regs 13) s.mem s.out
   pub numbers : Numbers s.mem (s.regs 12 + 4) (word s.mem (s.regs 12)) p.numbers
   pub texts : Texts image.bytes s.mem (s.regs 9) (s.regs 10) p.texts
 
@@ -59,6 +59,20 @@ free_room {image} {p} {st} {s} f = numbers_room s.mem (s.regs 12 + 4) (word s.me
 -- few values are pending
 abbrev pub IsShort : Pending → Type 0
 IsShort p = length p.numbers + length p.texts ≤ 256
+
+-- what is pending where R0 is free, after a routine: the same registers, and the same memory from the stack of numbers on
+pub free_pending : {image : Site} {p : Pending} {st : State} {s : Core} (t : Core) → Free image p st s → IsShort p → ((k : ℕ) → 9 ≤ k → k ≤ 13 → t.regs k ≡ s.regs k) → ((a : ℕ) → numbers_start ≤ a → a < stack_start → t.mem a ≡ s.mem a)
+    → Numbers t.mem (t.regs 12 + 4) (word t.mem (t.regs 12)) p.numbers × Texts image.bytes t.mem (t.regs 9) (t.regs 10) p.texts
+free_pending {image} {p} {st} {s} t f short kept same =
+    let room = free_room f in
+    let below = texts_room image.bytes s.mem (s.regs 9) (s.regs 10) p.texts f.texts in (
+      subst (λ q. Numbers t.mem (q + 4) (word t.mem q) p.numbers) (sym (kept 12 (omega arith) (omega arith)))
+          (subst (λ v. Numbers t.mem (s.regs 12 + 4) v p.numbers) (word-same s.mem t.mem (s.regs 12) (λ b low high. sym (same b (omega (arith, low, room, short)) (omega (arith, high, room, short)))))
+          (numbers_kept s.mem t.mem (s.regs 12 + 4) (word s.mem (s.regs 12)) p.numbers f.numbers (λ a low high. same a (omega (arith, low, room, short)) (omega (arith, high))))),
+      subst (λ q. Texts image.bytes t.mem (t.regs 9) q p.texts) (sym (kept 10 (omega arith) (omega arith)))
+          (subst (λ q. Texts image.bytes t.mem q (s.regs 10) p.texts) (sym (kept 9 (omega arith) (omega arith)))
+          (texts_kept image.bytes s.mem t.mem (s.regs 9) (s.regs 10) p.texts f.texts (λ a low high. same a (omega (arith, low, below, short)) (omega (arith, high))))),
+    )
 
 -- a core whose topmost number went to the stack
 abbrev pub with_room : Core → Core
@@ -133,7 +147,7 @@ raise_over {A} error line st unhandled =
 
 module _ {image : Site} {st : State} {s : Core} where
   -- the error in R0 and the line in R1 are raised
-  pub raised : (c : Course Effect) (error line : ℕ) → c ≡ over_by error line st → error < 256 → line < 65536 → Holds image.branches st (s.regs 11) (s.regs 13) s.mem s.out → s.regs 0 ≡ error → s.regs 1 ≡ line
+  pub raised : (c : Course Effect) (error line : ℕ) → c ≡ over_by error line st → error < 256 → line < 65536 → Holds image.branches image.table st (s.regs 11) (s.regs 13) s.mem s.out → s.regs 0 ≡ error → s.regs 1 ≡ line
       → Arrives image c (Leaves (ToLabel raise_label)) s
   raised c error line ends known fits h is_error is_line =
       subst (λ d. Arrives image d (Leaves (ToLabel raise_label)) s) (sym ends)
@@ -157,13 +171,13 @@ module _ {image : Site} {st : State} {s : Core} where
 
 module _ {image : Site} {st : State} {s : Core} where
   -- an error's code
-  pub raise_by : {Q : Post} (c : Course Effect) (error line : ℕ) → c ≡ over_by error line st → error < 256 → line < 65536 → Holds image.branches st (s.regs 11) (s.regs 13) s.mem s.out
+  pub raise_by : {Q : Post} (c : Course Effect) (error line : ℕ) → c ≡ over_by error line st → error < 256 → line < 65536 → Holds image.branches image.table st (s.regs 11) (s.regs 13) s.mem s.out
       → ((t : Core) → Arrives image c (Leaves (ToLabel raise_label)) t → Q (Leaves (ToLabel raise_label)) t) → Owes CodeAsks CodeDoes (code.raise error line) Q s
   raise_by c error line ends known fits h then_asked =
       set_then error refl (immediate_value-byte error known)
       (short_then line (omega (arith, fits)) (leave_then (then_asked _ (raised c error line ends known fits h refl refl))))
 
   -- wherever its piece leads if it comes to its end
-  pub raise_then : {falls : Core → Type 0} (c : Course Effect) (error line : ℕ) → c ≡ over_by error line st → error < 256 → line < 65536 → Holds image.branches st (s.regs 11) (s.regs 13) s.mem s.out
+  pub raise_then : {falls : Core → Type 0} (c : Course Effect) (error line : ℕ) → c ≡ over_by error line st → error < 256 → line < 65536 → Holds image.branches image.table st (s.regs 11) (s.regs 13) s.mem s.out
       → Owes CodeAsks CodeDoes (code.raise error line) (on_falls falls (Arrives image c)) s
   raise_then c error line ends known fits h = raise_by c error line ends known fits h (λ t a. a)

@@ -1,15 +1,17 @@
 -- How many words an image has.
-use Rattle.std.proofs.Common.{◌≡◌, ℕ, ◌+◌, ◌*◌, ◌≤◌, List, [], ◌∷◌, length, flat_map, arith}
+use Rattle.std.proofs.Common.{◌≡◌, ℕ, ◌+◌, ◌*◌, ◌≤◌, List, [], ◌∷◌, ◌++◌, length, flat_map, ap, ◌∙◌, arith}
 use Rattle.std.specs.List.{sum_by}
+use Rattle.std.proofs.lemmas.Grind.{flat_map-append}
 use Rattle.std.proofs.lemmas.List.{length-append}
 use Rattle.std.proofs.lemmas.List.Sums.{sum-map, sum_by-cons}
 use Rattle.bas_ir.specs.declared.ir.Ir.{Ir}
 use Rattle.bas_ir.specs.declared.op.Op.{Op}
 use Rattle.bas_ir.specs.Places.{marks_in}
 use Rattle.bas_ir.specs.WellFormed.{most_code, code_bytes}
+use Rattle.runtime_lib.specs.Data.{end_mark}
 use Rattle.runtime_lib.specs.Entries.{error_table}
 use Rattle.runtime_lib.proofs.LibraryLaws.{library-few}
-use Rattle.codegen.specs.Program.{program, data_bytes, packed, text_bytes, ops_size, most_beside}
+use Rattle.codegen.specs.Program.{program, all_texts, data_bytes, packed, text_bytes, ops_size, most_beside}
 use Rattle.codegen.proofs.Image.{length-program, whole-size}
 use Rattle.codegen.proofs.OpFacts.{op-size}
 
@@ -48,7 +50,11 @@ program-bound ir long marked =
     let ops = ops-bound ir.ops in
     let words = packed-bound (data_bytes ir) in
     let texts = texts-bound ir.texts in
-    let bytes = length-append error_table (flat_map text_bytes ir.texts) in
+    let items = texts-bound ir.data_items in
+    let bytes = length-append (error_table ++ flat_map text_bytes (all_texts ir)) (end_mark ∷ []) in
+    let first = length-append error_table (flat_map text_bytes (all_texts ir)) in
+    let both = ap length (flat_map-append text_bytes ir.texts ir.data_items) ∙ length-append (flat_map text_bytes ir.texts) (flat_map text_bytes ir.data_items) in
     let costs = sum-map most_code ir.ops in
     let spelled = sum-map (λ (t : List ℕ). 8 + length t) ir.texts in
-    omega (arith, all, whole, ops, words, texts, bytes, costs, spelled, marked, errors-bound, library-few)
+    let listed = sum-map (λ (t : List ℕ). 8 + length t) ir.data_items in
+    omega (arith, all, whole, ops, words, texts, items, bytes, first, both, costs, spelled, listed, marked, errors-bound, library-few)

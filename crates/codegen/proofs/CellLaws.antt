@@ -8,9 +8,9 @@ use Rattle.bas_store.specs.Stored.{Entry, with_number}
 use Rattle.bv_num.specs.Bits.{signed}
 use Rattle.arm_core.specs.Core.{word, put_word}
 use Rattle.arm_core.proofs.MemoryWords.{byte-put_other, word-put_same, word-put_other, word-same}
-use Rattle.code_frag.specs.Regions.{residents_start, column_at, opened_count_at, depth_at, cells_start, arrays_start}
+use Rattle.code_frag.specs.Regions.{residents_start, column_at, opened_count_at, depth_at, next_item_at, cells_start, arrays_start}
 use Rattle.runtime_lib.specs.Opened.{IsApart}
-use Rattle.codegen.specs.StandsFor.{HasResidents, HasIntegers, IsCell, cell_at, HasOpened, Holds}
+use Rattle.codegen.specs.StandsFor.{ItemTable, HasResidents, HasIntegers, IsCell, cell_at, HasOpened, Holds}
 use Rattle.codegen.proofs.StateLaws.{word_kept, opened_kept, residents_kept, integers_kept, arena_kept}
 
 -- ---- a resident: its word is another, and nothing else of them is
@@ -39,10 +39,10 @@ module _ (m k : ℕ → ℕ) (values : List ℤ) (index : ℕ) (v : ℤ) (has : 
   resident_changed = record { count = length-set values index v ∙ has.count; each = λ j low. resident_by_order j low (cases_order j index) }
 
 -- the state after it, with what is open then
-pub holds_resident_by : {branches : ℕ} (st : State) (base stack : ℕ) (m k : ℕ → ℕ) (out : List ℕ) (index : ℕ) (v : ℤ) (es : List Entry) → Holds branches st base stack m out → index < residents
+pub holds_resident_by : {branches : ℕ} {table : ItemTable} (st : State) (base stack : ℕ) (m k : ℕ → ℕ) (out : List ℕ) (index : ℕ) (v : ℤ) (es : List Entry) → Holds branches table st base stack m out → index < residents
     → signed (word k (residents_start + 4 * index)) ≡ v → HasOpened branches k es
     → ((b : ℕ) → b < arrays_start → IsApart opened_count_at 4 b → IsApart (residents_start + 4 * index) 4 b → k b ≡ m b)
-    → Holds branches (record st { stored = record (with_number (Resident index) v st.stored) { opened = es } }) base stack k out
+    → Holds branches table (record st { stored = record (with_number (Resident index) v st.stored) { opened = es } }) base stack k out
 holds_resident_by st base stack m k out index v es h inside is opened same = record {
   base_is = h.base_is;
   stack_is = h.stack_is;
@@ -52,13 +52,15 @@ holds_resident_by st base stack m k out index v es h inside is opened same = rec
   depth = word_kept m k depth_at 0 h.depth (λ b from to. same b (omega (arith, to)) (inr (omega (arith, from))) (inr (omega (arith, from, inside))));
   column = word_kept m k column_at st.column h.column (λ b from to. same b (omega (arith, to)) (inl (omega (arith, to))) (inr (omega (arith, from, inside))));
   column_small = h.column_small;
+  few_taken = h.few_taken;
+  next_item = word_kept m k next_item_at _ h.next_item (λ b from to. same b (omega (arith, to)) (inr (omega (arith, from))) (inr (omega (arith, from, inside))));
   has_arena = arena_kept m k st.arena h.has_arena (λ b low high. same b (omega (arith, high)) (inl (omega (arith, high))) (inl (omega (arith, high))));
   out_is = h.out_is;
   unhandled = h.unhandled;
 }
 
-pub holds_resident : {branches : ℕ} (st : State) (base stack : ℕ) (m : ℕ → ℕ) (out : List ℕ) (index x : ℕ) → Holds branches st base stack m out → index < residents → x < 2 ^ 32
-    → Holds branches (record st { stored = with_number (Resident index) (signed x) st.stored }) base stack (put_word m (residents_start + 4 * index) x) out
+pub holds_resident : {branches : ℕ} {table : ItemTable} (st : State) (base stack : ℕ) (m : ℕ → ℕ) (out : List ℕ) (index x : ℕ) → Holds branches table st base stack m out → index < residents → x < 2 ^ 32
+    → Holds branches table (record st { stored = with_number (Resident index) (signed x) st.stored }) base stack (put_word m (residents_start + 4 * index) x) out
 holds_resident {branches} st base stack m out index x h inside small =
     let a = residents_start + 4 * index in
     holds_resident_by st base stack m (put_word m a x) out index (signed x) st.stored.opened h inside (ap signed (word-put_same m a x small))
@@ -104,10 +106,10 @@ module _ (m k : ℕ → ℕ) (values : List (Option ℤ)) (name : ℕ) (v : ℤ)
   }
 
 -- the state after it, with what is open then
-pub holds_integer_by : {branches : ℕ} (st : State) (base stack : ℕ) (m k : ℕ → ℕ) (out : List ℕ) (name : ℕ) (v : ℤ) (es : List Entry) → Holds branches st base stack m out → name < length st.stored.integers
+pub holds_integer_by : {branches : ℕ} {table : ItemTable} (st : State) (base stack : ℕ) (m k : ℕ → ℕ) (out : List ℕ) (name : ℕ) (v : ℤ) (es : List Entry) → Holds branches table st base stack m out → name < length st.stored.integers
     → signed (word k (cell_at name)) ≡ v → word k (cell_at name + 4) ≡ 1 → HasOpened branches k es
     → ((b : ℕ) → b < arrays_start → IsApart opened_count_at 4 b → IsApart (cell_at name) 8 b → k b ≡ m b)
-    → Holds branches (record st { stored = record (with_number (Integer name) v st.stored) { opened = es } }) base stack k out
+    → Holds branches table (record st { stored = record (with_number (Integer name) v st.stored) { opened = es } }) base stack k out
 holds_integer_by st base stack m k out name v es h inside number_is mark_is opened same = record {
   base_is = h.base_is;
   stack_is = h.stack_is;
@@ -117,13 +119,15 @@ holds_integer_by st base stack m k out name v es h inside number_is mark_is open
   depth = word_kept m k depth_at 0 h.depth (λ b from to. same b (omega (arith, to)) (inr (omega (arith, from))) (inl (omega (arith, to))));
   column = word_kept m k column_at st.column h.column (λ b from to. same b (omega (arith, to)) (inl (omega (arith, to))) (inl (omega (arith, to))));
   column_small = h.column_small;
+  few_taken = h.few_taken;
+  next_item = word_kept m k next_item_at _ h.next_item (λ b from to. same b (omega (arith, to)) (inr (omega (arith, from))) (inl (omega (arith, to))));
   has_arena = arena_kept m k st.arena h.has_arena (λ b low high. same b (omega (arith, high)) (inl (omega (arith, high))) (inl (omega (arith, high))));
   out_is = h.out_is;
   unhandled = h.unhandled;
 }
 
-pub holds_integer : {branches : ℕ} (st : State) (base stack : ℕ) (m : ℕ → ℕ) (out : List ℕ) (name x : ℕ) → Holds branches st base stack m out → name < length st.stored.integers → x < 2 ^ 32
-    → Holds branches (record st { stored = with_number (Integer name) (signed x) st.stored }) base stack (put_word (put_word m (cell_at name) x) (cell_at name + 4) 1) out
+pub holds_integer : {branches : ℕ} {table : ItemTable} (st : State) (base stack : ℕ) (m : ℕ → ℕ) (out : List ℕ) (name x : ℕ) → Holds branches table st base stack m out → name < length st.stored.integers → x < 2 ^ 32
+    → Holds branches table (record st { stored = with_number (Integer name) (signed x) st.stored }) base stack (put_word (put_word m (cell_at name) x) (cell_at name + 4) 1) out
 holds_integer {branches} st base stack m out name x h inside small =
     let few = h.has_integers.few in
     let first = put_word m (cell_at name) x in

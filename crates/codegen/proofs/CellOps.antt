@@ -124,7 +124,7 @@ module _ {image : Site} {p : Pending} {st : State} {s : Core} (texts : Named) wh
       let room = free_room g in
       store_then a (s.regs 0) (omega (arith, b, inside)) refl (omega arith) (inr (omega arith, omega (arith, inside)))
       (drop_end (record {
-        holds = subst (λ v. Holds image.branches (record st { stored = with_number (Resident index) v st.stored }) (s.regs 11) (s.regs 13) (put_word s.mem a (s.regs 0)) s.out) f.numbers.0
+        holds = subst (λ v. Holds image.branches image.table (record st { stored = with_number (Resident index) v st.stored }) (s.regs 11) (s.regs 13) (put_word s.mem a (s.regs 0)) s.out) f.numbers.0
             (holds_resident st (s.regs 11) (s.regs 13) s.mem s.out index (s.regs 0) f.holds inside (good.regs 0));
         numbers = subst (λ w. Numbers (put_word s.mem a (s.regs 0)) (s.regs 12 + 4) w p.numbers)
             (word-same s.mem (put_word s.mem a (s.regs 0)) (s.regs 12) (λ c low high. sym (byte-put_other s.mem a (s.regs 0) c (inr (omega (arith, low, inside, room, few))))))
@@ -163,7 +163,7 @@ module _ {image : Site} {p : Pending} {st : State} {s : Core} (texts : Named) wh
       (set_then 1 refl refl
       (store_then (a + 4) 1 (omega (arith, low)) refl (omega arith) (inr (omega arith, omega (arith, low)))
       (drop_end (record {
-        holds = subst (λ v. Holds image.branches (record st { stored = with_number (Integer name) v st.stored }) (s.regs 11) (s.regs 13) after s.out) f.numbers.0
+        holds = subst (λ v. Holds image.branches image.table (record st { stored = with_number (Integer name) v st.stored }) (s.regs 11) (s.regs 13) after s.out) f.numbers.0
             (holds_integer st (s.regs 11) (s.regs 13) s.mem s.out name (s.regs 0) f.holds inside (good.regs 0));
         numbers = subst (λ w. Numbers after (s.regs 12 + 4) w p.numbers)
             (word-same s.mem after (s.regs 12) (λ c from to. sym (elsewhere c (omega (arith, from, low, room, short)))))
@@ -174,7 +174,7 @@ module _ {image : Site} {p : Pending} {st : State} {s : Core} (texts : Named) wh
   -- ---- texts
 
   -- a text of the image
-  pub push_text_owes : (number : ℕ) (text : List ℕ) → IsText image.bytes (texts.text number) text → StandsFor image p st s → IsGood s → IsShort p
+  pub push_text_owes : (number : ℕ) (text : List ℕ) → IsText image.bytes texts.text text → StandsFor image p st s → IsGood s → IsShort p
       → Owes CodeAsks CodeDoes (op_code texts (o.PushText number)) (Arrives image (Value (Falls (text_pushed text p)) st)) s
   push_text_owes number text there f good short =
       let room = texts_room image.bytes s.mem (s.regs 9) (s.regs 10) p.texts f.texts in
@@ -182,7 +182,7 @@ module _ {image : Site} {p : Pending} {st : State} {s : Core} (texts : Named) wh
       let q = s.regs 9 - 4 in
       let high = there.high in
       push_then q (s.regs 10) (omega (arith, room, short)) refl (omega (arith, room, short)) (inr (omega (arith, room, short), omega (arith, room, short)))
-      (load_then 10 (texts.text number) (omega (arith, high))
+      (load_then 10 texts.text (omega (arith, high))
       (end_here (record {
         by = (
           refl,

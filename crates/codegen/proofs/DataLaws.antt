@@ -1,6 +1,6 @@
 -- How the bytes of texts, and their words, follow one another.
 use Rattle.std.proofs.Common.{◌≡◌, ℕ, ◌+◌, ◌*◌, ◌^◌, ◌<◌, ◌≤◌, List, [], ◌∷◌, ◌++◌, length, get_or, drop, refl, sym, ap, ◌∙◌, arith, append_assoc, append-nil}
-use Rattle.std.specs.Prelude.{flat_map}
+use Rattle.std.specs.Prelude.{flat_map, slice_index_or}
 use Rattle.std.proofs.lemmas.List.{drop_more, drop_all, drop-drop, get_or-drop, length-drop}
 use Rattle.std.specs.Int.{div_ceil}
 use Rattle.arm_isa.specs.declared.instruction.Instr.{Instr}
@@ -13,14 +13,14 @@ use Rattle.codegen.specs.Program.{packed, data_items}
 -- ---- pieces of bytes, one after another
 
 module _ {X : Type 0} (f : X → List ℕ) (all : List ℕ) where
-  pub pieces_step : (xs ys : List X) (i : ℕ) (x : X) (before after : List ℕ) → ys ≡ xs → i < length ys → x ≡ get_or ys i x → after ≡ before ++ f x → before ++ flat_map f (drop i xs) ≡ all → after ++ flat_map f (drop (i + 1) xs) ≡ all
-  pieces_step xs ys i x before after same within is more so_far =
-      let next : drop i xs ≡ x ∷ drop (i + 1) xs = ap (drop i) (sym same) ∙ drop_more ys i x within ∙ (λ j. sym is j ∷ drop (i + 1) (same j)) in
+  pub pieces_step : (xs : List X) (i : ℕ) (d x : X) (before after : List ℕ) → i < length xs → x ≡ slice_index_or xs i d → after ≡ before ++ f x → before ++ flat_map f (drop i xs) ≡ all → after ++ flat_map f (drop (i + 1) xs) ≡ all
+  pieces_step xs i d x before after within is more so_far =
+      let next : drop i xs ≡ x ∷ drop (i + 1) xs = drop_more xs i d within ∙ ap (λ y. y ∷ drop (i + 1) xs) (sym is) in
       ap (λ bytes. bytes ++ flat_map f (drop (i + 1) xs)) more ∙ append_assoc before (f x) (flat_map f (drop (i + 1) xs)) ∙ sym (ap (λ rest. before ++ flat_map f rest) next) ∙ so_far
 
-  pub pieces_end : (xs ys : List X) (i : ℕ) (before : List ℕ) → ys ≡ xs → length ys ≤ i → before ++ flat_map f (drop i xs) ≡ all → before ≡ all
-  pieces_end xs ys i before same past so_far =
-      let none : drop i xs ≡ [] = ap (drop i) (sym same) ∙ drop_all i ys past in
+  pub pieces_end : (xs : List X) (i : ℕ) (before : List ℕ) → length xs ≤ i → before ++ flat_map f (drop i xs) ≡ all → before ≡ all
+  pieces_end xs i before past so_far =
+      let none : drop i xs ≡ [] = drop_all i xs past in
       sym (append-nil before) ∙ sym (ap (λ rest. before ++ flat_map f rest) none) ∙ so_far
 
 -- ---- words

@@ -1,19 +1,20 @@
 -- What an operation leaves alone: the steps that are left, and which names there are; and where it leads.
-use Rattle.std.proofs.Common.{◌≡◌, ℕ, ◌-◌, ◌≤◌, ◌==◌, if◌then◌else◌, Bool, true, false, ℤ, List, [], ◌∷◌, Option, None, Some, length, slice_index_or, Result, Ok, Err, refl, ◌∙◌, arith}
+use Rattle.std.proofs.Common.{◌≡◌, ℕ, ◌+◌, ◌-◌, ◌≤◌, ◌==◌, if◌then◌else◌, Bool, true, false, ℤ, List, [], ◌∷◌, Option, None, Some, length, slice_index_or, Result, Ok, Err, refl, ◌∙◌, arith}
 use Rattle.std.proofs.lemmas.List.{length-set}
 use Rattle.std.specs.Ordering.{int_eq}
-use Rattle.std.specs.Prelude.{pos}
+use Rattle.std.specs.Prelude.{pos, slice_get}
 use Rattle.bas_ir.specs.declared.ir.Ir.{Ir}
 use Rattle.bas_ir.specs.declared.op.Op.{Op}
 use Rattle.bas_ir.specs.declared.op.Op.TheVariants as o
 use Rattle.bas_ir.specs.Coded.{HasCode}
 use Rattle.bas_ir.specs.declared.op.Counter.{Counter}
 use Rattle.bas_ir.specs.declared.op.Counter.TheVariants as counters
-use Rattle.bas_ir.specs.Effects.{Effect, Falls, Goes, Opens, falls, go_if, go_if_one, gosub_if_one, raise_if_one, cell_of, round_or_on, effect}
+use Rattle.bas_ir.specs.Effects.{Effect, Falls, Goes, Opens, falls, go_if, go_if_one, go_if_equal, gosub_if_one, raise_if_one, cell_of, round_or_on, effect}
 use Rattle.bas_ir.specs.Places.{Pending, pushed}
 use Rattle.bas_ir.specs.WellFormed.{IsReached, IsThere, IsCounter}
 use Rattle.bas_sem.specs.Actions.{taker, raised_to, raise, assign, or_raise, or_unknown}
 use Rattle.bas_sem.specs.Calls.{Level, GoOn}
+use Rattle.bas_sem.specs.Data.{item_taken}
 use Rattle.bas_sem.specs.Course.{Course, Value, on_value, ◌>>◌, give}
 use Rattle.bas_sem.specs.Loops.{found_or, leave_open, settle, goes_round, turned}
 use Rattle.bas_sem.specs.Operators.{of_one, of_two}
@@ -23,8 +24,9 @@ use Rattle.bas_store.specs.Opened as store
 use Rattle.bas_store.specs.Opened.{Closer, AnyNext, NextOf, Until, EndWhile, Return, Found, closes}
 use Rattle.bas_store.specs.Stored.{Handler, Opening, For, Repeat, While, Gosub, Entry, number_in, or_zero, with_number}
 use Rattle.bv_num.specs.Operation.{operation, Add}
+use Rattle.bv_num.specs.Value.{data_value}
 use Rattle.codegen.specs.StandsFor.{IsNamed, IsEntry, AreEntries}
-use Rattle.bas_value.specs.Errors.{error_text, unknown_variable, no_for, no_repeat, no_while, no_subroutine}
+use Rattle.bas_value.specs.Errors.{error_text, unknown_variable, no_for, no_repeat, no_while, no_subroutine, out_of_data}
 
 -- the steps that are left, the number of names with integers, and what open entries name
 abbrev Same : Ir → ℕ → ℕ → State → Type 0
@@ -91,17 +93,27 @@ module _ (ir : Ir) (left names : ℕ) where
   by_gosub true item line value p st there same = (there, tt, same)
   by_gosub false item line value p st there same = same
 
+  by_equal : (equal : Bool) (item : ℕ) (value : ℤ) (p : Pending) (st : State) → item ≤ length ir.starts → Same ir left names st → Facts ir left names (Value (go_if_equal equal item value p) st)
+  by_equal true item value p st there same = (there, same)
+  by_equal false item value p st there same = same
+
   by_raise_one : (one : Bool) (error line : ℕ) (value : ℤ) (p : Pending) (st : State) → Same ir left names st → Facts ir left names (raise_if_one one error line value p st)
   by_raise_one true error line value p st same = raised_facts (taker (int_eq (pos error) (pos 0)) st.handler) (pos error) (error_text error) line st
   by_raise_one false error line value p st same = same
 
-  -- an error within what is done with an entry
+  -- an error within what is done with an entry or an item of DATA
   raised_within : {A B : Type 0} (f : A → State → Course B) (g : B → State → Course Effect) (error line : ℕ) (st : State) → Facts ir left names (on_value (on_value (raise {A = A} error line st) f) g)
   raised_within {A} f g error line st = by (taker (int_eq (pos error) (pos 0)) st.handler)
     where
       by : (handler : Option Handler) → Facts ir left names (on_value (on_value (raised_to {A = A} handler (pos error) (error_text error) line st) f) g)
       by None = tt
       by (Some handler) = tt
+
+  -- READ
+  by_read : (line : ℕ) (p : Pending) (item : Option (List ℕ)) (st : State) → Same ir left names st
+      → Facts ir left names (on_value (on_value (item_taken item line st) (λ text. or_raise line (data_value text))) (λ value. falls (pushed value p)))
+  by_read line p None st same = raised_within _ _ out_of_data line st
+  by_read line p (Some text) st same = by_result line p (data_value text) (record st { data_place = st.data_place + 1 }) same
 
   -- a closing word that leads on at an item, by the entry that is found
   by_closing : (error line : ℕ) (to : ℕ → ℕ) → ((n : ℕ) → to n ≤ n) → (f : Option Found) (st : State) → FitsFound names (length ir.starts) f → Same ir left names st
@@ -181,16 +193,19 @@ module _ (ir : Ir) (left names : ℕ) where
   effect_facts level o.Discard (value ∷ numbers) texts st coded there count is same = same
   effect_facts level (o.GoIfOne item) [] texts st coded there count is same = tt
   effect_facts level (o.GoIfOne item) (value ∷ numbers) texts st coded there count is same = by_one (int_eq value (pos 1)) item value (record { numbers = numbers; texts = texts }) st there same
-  effect_facts level (o.GosubIfOne item line) [] texts st coded there count is same = tt
-  effect_facts level (o.GosubIfOne item line) (value ∷ numbers) texts st coded there count is same = by_gosub (int_eq value (pos 1)) item line value (record { numbers = numbers; texts = texts }) st there same
+  effect_facts level (o.GosubIfOne line item) [] texts st coded there count is same = tt
+  effect_facts level (o.GosubIfOne line item) (value ∷ numbers) texts st coded there count is same = by_gosub (int_eq value (pos 1)) item line value (record { numbers = numbers; texts = texts }) st there same
   effect_facts level (o.RaiseIfOne error line) [] texts st coded there count is same = tt
   effect_facts level (o.RaiseIfOne error line) (value ∷ numbers) texts st coded there count is same = by_raise_one (int_eq value (pos 1)) error line value (record { numbers = numbers; texts = texts }) st same
+  effect_facts level (o.GoIfEqual item) [] texts st coded there count is same = tt
+  effect_facts level (o.GoIfEqual item) (y ∷ []) texts st coded there count is same = tt
+  effect_facts level (o.GoIfEqual item) (y ∷ x ∷ numbers) texts st coded there count is same = by_equal (int_eq y x) item x (record { numbers = numbers; texts = texts }) st there same
   effect_facts level (o.OpenFor counter line) [] texts st coded there count is same = tt
   effect_facts level (o.OpenFor counter line) (step ∷ []) texts st coded there count is same = tt
   effect_facts level (o.OpenFor counter line) (step ∷ limit ∷ numbers) texts st coded there count is same = (tt, named_counter counter limit step count is, same)
   effect_facts level (o.OpenRepeat line) numbers texts st coded there count is same = (tt, tt, same)
   effect_facts level (o.OpenWhile line) numbers texts st coded there count is same = (tt, tt, same)
-  effect_facts level (o.Gosub item line) numbers texts st coded there count is same = (there, tt, same)
+  effect_facts level (o.Gosub line item) numbers texts st coded there count is same = (there, tt, same)
   effect_facts level (o.Next counter line) numbers texts st coded there count is same =
       by_next (store.closing_error level.depth (NextOf (cell_of counter)) st.stored.opened) line (record { numbers = numbers; texts = texts }) (Nearest level.depth (NextOf (cell_of counter)) st) st (fits_nearest level.depth (NextOf (cell_of counter)) st same) same
   effect_facts level (o.NextAny line) numbers texts st coded there count is same =
@@ -202,6 +217,8 @@ module _ (ir : Ir) (left names : ℕ) where
       by_closing no_while line (λ after. after - 1) (λ n. omega arith) (Nearest level.depth EndWhile st) st (fits_nearest level.depth EndWhile st same) same
   effect_facts level (o.Return line) numbers texts st coded there count is same =
       by_closing no_subroutine line (λ after. after) (λ n. omega arith) (Nearest level.depth Return st) st (fits_nearest level.depth Return st same) same
+  effect_facts level (o.ReadNumber line) numbers texts st coded there count is same = by_read line (record { numbers = numbers; texts = texts }) (slice_get ir.data_items st.data_place) st same
+  effect_facts level (o.Restore item) numbers texts st coded there count is same = same
   effect_facts level (o.Raise error line) numbers texts st coded there count is same = raised_facts (taker (int_eq (pos error) (pos 0)) st.handler) (pos error) (error_text error) line st
   effect_facts level o.End numbers texts st coded there count is same = tt
   effect_facts level (o.Enter kind routine line) numbers texts st coded there count is same = absurd coded

@@ -1,13 +1,10 @@
 -- How labels, operations and addresses follow one another in a program's fragment.
 use Rattle.std.proofs.Common.{◌≡◌, ◌≢◌, ℕ, zero, suc, ◌+◌, ◌-◌, min, ◌<◌, ◌≤◌, Bool, true, false, List, [], ◌∷◌, ◌++◌, length, get_or, take, drop, replicate, slice_get, slice_set, Some, None, refl, sym, ap, subst, ◌∙◌, arith, append_assoc, length-append}
-use Rattle.std.specs.Prelude.{slice_index, flat_map}
+use Rattle.std.specs.Prelude.{slice_index, slice_index_or, flat_map}
 use Rattle.std.proofs.lemmas.List.{take_more, drop_more, drop_all, replicate-append-replicate}
 use Rattle.std.proofs.lemmas.Option.{slice_get-get_or}
 use Rattle.bas_ir.specs.declared.ir.Ir.{Ir}
-use Rattle.bas_ir.specs.declared.op.Mark.TheVariants as marks
 use Rattle.bas_ir.specs.declared.op.Op.{Op}
-use Rattle.bas_ir.specs.declared.op.Op.TheVariants as o
-use Rattle.bas_ir.specs.declared.op.Piece.TheVariants as pieces
 use Rattle.bas_ir.specs.Places.{marks_in}
 use Rattle.arm_isa.specs.Numbers.{AL}
 use Rattle.code_frag.specs.declared.item.Item.{Item}
@@ -15,24 +12,24 @@ use Rattle.code_frag.specs.declared.item.Item.TheVariants.{Jump}
 use Rattle.code_frag.specs.declared.item.Label.{Label}
 use Rattle.code_frag.specs.Language.{Piece, ◌⨾◌, items}
 use Rattle.code_frag.specs.Words.{FragState}
-use Rattle.codegen.specs.Operations.{item_label, op_code}
-use Rattle.codegen.specs.Program.{branch_items, item_after, named, text_bytes, text_address}
+use Rattle.codegen.specs.Operations.{item_label}
+use Rattle.codegen.specs.Program.{branch_items, item_after, all_texts, text_bytes, text_address, named_text}
 use Rattle.codegen.specs.Emission.{with_code}
-use Rattle.codegen.specs.Placing.{addresses_from, addresses, address_in, texts_start, text_of, with_labels, with_place_if, with_op, with_ops, AreOpen}
+use Rattle.codegen.specs.Placing.{addresses_from, addresses, texts_start, with_labels, with_place_if, with_op, with_ops, AreOpen}
 
 -- ---- addresses of texts
 
-pub addresses_more : (texts ys : List (List ℕ)) (i at next : ℕ) (text : List ℕ) (before after all : List ℕ) → ys ≡ texts → i < length ys → text ≡ get_or ys i text → next ≡ at + length (text_bytes text) → after ≡ before ++ at ∷ []
+pub addresses_more : (texts : List (List ℕ)) (i at next : ℕ) (text : List ℕ) (before after all : List ℕ) → i < length texts → text ≡ slice_index_or texts i [] → next ≡ at + length (text_bytes text) → after ≡ before ++ at ∷ []
     → before ++ addresses_from at (drop i texts) ≡ all → after ++ addresses_from next (drop (i + 1) texts) ≡ all
-addresses_more texts ys i at next text before after all same within is moved more so_far =
-    let first : drop i texts ≡ text ∷ drop (i + 1) texts = ap (drop i) (sym same) ∙ drop_more ys i text within ∙ (λ j. sym is j ∷ drop (i + 1) (same j)) in
+addresses_more texts i at next text before after all within is moved more so_far =
+    let first : drop i texts ≡ text ∷ drop (i + 1) texts = drop_more texts i [] within ∙ ap (λ t. t ∷ drop (i + 1) texts) (sym is) in
     (λ j. more j ++ addresses_from (moved j) (drop (i + 1) texts)) ∙ append_assoc before (at ∷ []) (addresses_from (at + length (text_bytes text)) (drop (i + 1) texts)) ∙ sym (ap (λ rest. before ++ addresses_from at rest) first) ∙ so_far
 
-pub addresses_end : (ir : Ir) (ys : List (List ℕ)) (i at : ℕ) (before after : List ℕ) → ys ≡ ir.texts → length ys ≤ i → after ≡ before ++ at ∷ []
-    → before ++ addresses_from at (drop i ir.texts) ≡ addresses_from texts_start ir.texts → after ≡ addresses ir
+pub addresses_end : (ir : Ir) (i at : ℕ) (before after : List ℕ) → length (all_texts ir) ≤ i → after ≡ before ++ at ∷ []
+    → before ++ addresses_from at (drop i (all_texts ir)) ≡ addresses_from texts_start (all_texts ir) → after ≡ addresses ir
 unfolding addresses
-addresses_end ir ys i at before after same past more so_far =
-    let none : drop i ir.texts ≡ [] = ap (drop i) (sym same) ∙ drop_all i ys past in
+addresses_end ir i at before after past more so_far =
+    let none : drop i (all_texts ir) ≡ [] = drop_all i (all_texts ir) past in
     more ∙ sym (ap (λ rest. before ++ addresses_from at rest) none) ∙ so_far
 
 some_addresses : (at : ℕ) (texts : List (List ℕ)) → 0 < length (addresses_from at texts)
@@ -41,7 +38,11 @@ some_addresses at (text ∷ texts) = omega arith
 
 pub addresses-some : (ir : Ir) → 0 < length (addresses ir)
 unfolding addresses
-addresses-some ir = some_addresses texts_start ir.texts
+addresses-some ir = some_addresses texts_start (all_texts ir)
+
+-- the address of a number in such a table
+abbrev address_in : List ℕ → ℕ → ℕ
+address_in table number = slice_index table (min number (length table - 1))
 
 address_after : (a : ℕ) (rest : List ℕ) (n : ℕ) → 0 < length rest → address_in (a ∷ rest) (suc n) ≡ address_in rest n
 address_after a rest n some = ap (slice_index (a ∷ rest)) (let e : min (suc n) (length (a ∷ rest) - 1) ≡ suc (min n (length rest - 1)) = omega (arith, some) in e)
@@ -56,57 +57,9 @@ address_from at (text ∷ texts) (suc n) =
     ∙ address_from (at + length (text_bytes text)) texts n
     ∙ (let e = length-append (text_bytes text) (flat_map text_bytes (take n texts)) in omega (arith, e))
 
-pub address-is : (ir : Ir) (n : ℕ) → address_in (addresses ir) n ≡ text_address ir n
+pub address-is : (ir : Ir) (n : ℕ) → slice_index (addresses ir) (min n (length (addresses ir) - 1)) ≡ text_address ir n
 unfolding addresses
-address-is ir n = address_from texts_start ir.texts n
-
--- an operation's code depends on the address of its own text alone
-pub op_code-text : (texts : ℕ → ℕ) (branches next : ℕ) (op : Op) → op_code (named (λ number. texts (text_of op)) branches next) op ≡ op_code (named texts branches next) op
-op_code-text texts branches next (o.Push value) = refl
-op_code-text texts branches next o.PushColumn = refl
-op_code-text texts branches next (o.PushResident index) = refl
-op_code-text texts branches next (o.PushInteger name line) = refl
-op_code-text texts branches next (o.PushText number) = refl
-op_code-text texts branches next (o.Unary x line) = refl
-op_code-text texts branches next (o.Binary x line) = refl
-op_code-text texts branches next (o.StoreResident index) = refl
-op_code-text texts branches next (o.StoreInteger name) = refl
-op_code-text texts branches next (o.WriteNumber padded format) = refl
-op_code-text texts branches next o.WriteText = refl
-op_code-text texts branches next (o.Write pieces.Spaces) = refl
-op_code-text texts branches next (o.Write pieces.Tab) = refl
-op_code-text texts branches next (o.Write pieces.Byte) = refl
-op_code-text texts branches next (o.Write pieces.Word) = refl
-op_code-text texts branches next (o.Write pieces.Mode) = refl
-op_code-text texts branches next (o.Write pieces.Colour) = refl
-op_code-text texts branches next (o.WriteMark marks.Field) = refl
-op_code-text texts branches next (o.WriteMark marks.NewLine) = refl
-op_code-text texts branches next (o.WriteMark marks.Clear) = refl
-op_code-text texts branches next (o.Go item) = refl
-op_code-text texts branches next (o.GoIfZero item) = refl
-op_code-text texts branches next o.Discard = refl
-op_code-text texts branches next (o.GoIfOne item) = refl
-op_code-text texts branches next (o.GosubIfOne item line) = refl
-op_code-text texts branches next (o.RaiseIfOne error line) = refl
-op_code-text texts branches next (o.OpenFor counter line) = refl
-op_code-text texts branches next (o.OpenRepeat line) = refl
-op_code-text texts branches next (o.OpenWhile line) = refl
-op_code-text texts branches next (o.Gosub item line) = refl
-op_code-text texts branches next (o.Next counter line) = refl
-op_code-text texts branches next (o.NextAny line) = refl
-op_code-text texts branches next (o.Until line) = refl
-op_code-text texts branches next (o.EndWhile line) = refl
-op_code-text texts branches next (o.Return line) = refl
-op_code-text texts branches next (o.Raise error line) = refl
-op_code-text texts branches next o.End = refl
-op_code-text texts branches next (o.Enter kind routine line) = refl
-op_code-text texts branches next (o.LeaveProcedure line) = refl
-op_code-text texts branches next (o.NeedFunction line) = refl
-op_code-text texts branches next o.LeaveNumber = refl
-op_code-text texts branches next o.LeaveText = refl
-op_code-text texts branches next (o.HandleAll item) = refl
-op_code-text texts branches next (o.HandleHere item) = refl
-op_code-text texts branches next o.HandleNone = refl
+address-is ir n = address_from texts_start (all_texts ir) n
 
 -- ---- pieces one after another
 
@@ -148,7 +101,7 @@ branches_step item to first f g number made so_far =
 
 -- ---- operations
 
-pub ops_step : (texts : ℕ → ℕ) (branches : ℕ) (ops : List Op) (xs : List Bool) (pc item : ℕ) (op : Op) (f g all : FragState) → pc < length ops → pc < length xs → op ≡ get_or ops pc op → g ≡ with_op texts branches op (get_or xs pc false) item f
+pub ops_step : (texts : Op → ℕ) (branches : ℕ) (ops : List Op) (xs : List Bool) (pc item : ℕ) (op : Op) (f g all : FragState) → pc < length ops → pc < length xs → op ≡ get_or ops pc op → g ≡ with_op (texts op) branches op (get_or xs pc false) item f
     → with_ops texts branches (drop pc ops) (drop pc xs) item f ≡ all → with_ops texts branches (drop (pc + 1) ops) (drop (pc + 1) xs) (item_after (get_or xs pc false) item) g ≡ all
 ops_step texts branches ops xs pc item op f g all within also is made so_far =
     let first : drop pc ops ≡ op ∷ drop (pc + 1) ops = drop_more ops pc op within ∙ ap (λ x. x ∷ drop (pc + 1) ops) (sym is) in
@@ -180,8 +133,8 @@ open_after true item f free k from within =
     ∙ free k (omega (arith, from)) (let e = length_set f.places (item_label item) (Some (length f.items)) in omega (arith, e, within))
 open_after false item f free k from within = free k from within
 
-pub open_step : (texts : ℕ → ℕ) (branches : ℕ) (op : Op) (mark : Bool) (item : ℕ) (f g : FragState) → g ≡ with_op texts branches op mark item f → AreOpen item f → AreOpen (item_after mark item) g
-open_step texts branches op mark item f g made free = subst (AreOpen (item_after mark item)) (sym made) (open_after mark item f free)
+pub open_step : (text branches : ℕ) (op : Op) (mark : Bool) (item : ℕ) (f g : FragState) → g ≡ with_op text branches op mark item f → AreOpen item f → AreOpen (item_after mark item) g
+open_step text branches op mark item f g made free = subst (AreOpen (item_after mark item)) (sym made) (open_after mark item f free)
 
 pub labels_few : (mark : Bool) (i : ℕ) (g h : FragState) → h ≡ with_labels (item_after mark 0) g → length g.places ≤ item_label i → length h.places ≤ item_label (i + 1)
 labels_few true i g h added few = omega (arith, ap (λ (f : FragState). length f.places) added, length-append g.places (None ∷ []), few)
@@ -198,7 +151,7 @@ pub op_at : (ops ys : List Op) (pc : ℕ) (d : Op) → ys ≡ ops → pc < lengt
 op_at ops ys pc d same within = sym (ap (λ xs. slice_get xs pc) same) ∙ slice_get-get_or ys pc d within
 
 module _ (ir : Ir) (ys : List Op) (ms : List Bool) (pc item next address branches : ℕ) (d : Op) (f g : FragState) (same_ops : ys ≡ ir.ops) (same_marks : ms ≡ ir.marks) (within : pc < length ys) (laid_out : length ir.marks ≡ length ir.ops)
-    (made : g ≡ with_op (λ number. address) branches (get_or ys pc d) (get_or ms pc false) item f) (moved : next ≡ item_after (get_or ms pc false) item) where
+    (made : g ≡ with_op address branches (get_or ys pc d) (get_or ms pc false) item f) (moved : next ≡ item_after (get_or ms pc false) item) where
   in_ops : pc < length ir.ops
   in_ops = let e = ap length same_ops in omega (arith, e, within)
 
@@ -208,22 +161,19 @@ module _ (ir : Ir) (ys : List Op) (ms : List Bool) (pc item next address branche
   mark_is : get_or ms pc false ≡ get_or ir.marks pc false
   mark_is = ap (λ xs. get_or xs pc false) same_marks
 
-  pub code_more : (table : List ℕ) (all : FragState) → table ≡ addresses ir → address ≡ address_in table (text_of (get_or ys pc d)) → with_ops (text_address ir) branches (drop pc ir.ops) (drop pc ir.marks) item f ≡ all
-      → with_ops (text_address ir) branches (drop (pc + 1) ir.ops) (drop (pc + 1) ir.marks) next g ≡ all
-  code_more table all table_is address_is_ so_far =
+  pub code_more : (all : FragState) → address ≡ named_text ir (get_or ys pc d) → with_ops (named_text ir) branches (drop pc ir.ops) (drop pc ir.marks) item f ≡ all
+      → with_ops (named_text ir) branches (drop (pc + 1) ir.ops) (drop (pc + 1) ir.marks) next g ≡ all
+  code_more all address_is so_far =
       let op = get_or ys pc d in
-      let there : address ≡ text_address ir (text_of op) = address_is_ ∙ ap (λ t. address_in t (text_of op)) table_is ∙ address-is ir (text_of op) in
-      let after = item_after (get_or ms pc false) item in
-      let code : op_code (named (λ number. address) branches after) op ≡ op_code (named (text_address ir) branches after) op = ap (λ a. op_code (named (λ number. a) branches after) op) there ∙ op_code-text (text_address ir) branches after op in
-      let made_there : g ≡ with_op (text_address ir) branches op (get_or ir.marks pc false) item f = made ∙ ap (λ c. with_code c (with_place_if (get_or ms pc false) item f)) code ∙ ap (λ m. with_op (text_address ir) branches op m item f) mark_is in
-      ap (λ n. with_ops (text_address ir) branches (drop (pc + 1) ir.ops) (drop (pc + 1) ir.marks) n g) (moved ∙ ap (λ m. item_after m item) mark_is)
-      ∙ ops_step (text_address ir) branches ir.ops ir.marks pc item op f g all in_ops in_marks (op_is) made_there so_far
+      let made_there : g ≡ with_op (named_text ir op) branches op (get_or ir.marks pc false) item f = made ∙ (λ j. with_op (address_is j) branches op (mark_is j) item f) in
+      ap (λ n. with_ops (named_text ir) branches (drop (pc + 1) ir.ops) (drop (pc + 1) ir.marks) n g) (moved ∙ ap (λ m. item_after m item) mark_is)
+      ∙ ops_step (named_text ir) branches ir.ops ir.marks pc item op f g all in_ops in_marks (op_is) made_there so_far
     where
       op_is : get_or ys pc d ≡ get_or ir.ops pc (get_or ys pc d)
       op_is = same_read ys pc d (get_or ys pc d) within ∙ ap (λ xs. get_or xs pc (get_or ys pc d)) same_ops
 
   pub unplaced_more : AreOpen item f → AreOpen next g
-  unplaced_more free = subst (λ n. AreOpen n g) (sym moved) (open_step (λ number. address) branches (get_or ys pc d) (get_or ms pc false) item f g made free)
+  unplaced_more free = subst (λ n. AreOpen n g) (sym moved) (open_step address branches (get_or ys pc d) (get_or ms pc false) item f g made free)
 
   pub items_more : (all : ℕ) → item + marks_in (drop pc ir.marks) ≡ all → next + marks_in (drop (pc + 1) ir.marks) ≡ all
   items_more all so_far = ap (λ n. n + marks_in (drop (pc + 1) ir.marks)) (moved ∙ ap (λ m. item_after m item) mark_is) ∙ items_step ir.marks pc item all in_marks so_far

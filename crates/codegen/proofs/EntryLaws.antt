@@ -33,7 +33,7 @@ same_test true false forth back = sym (forth refl)
 same_test false true forth back = back refl
 
 -- two numbers are the same where others are
-eqb-by : (a b c d : ℕ) → (a ≡ b → c ≡ d) → (c ≡ d → a ≡ b) → (a == b) ≡ (c == d)
+pub eqb-by : (a b c d : ℕ) → (a ≡ b → c ≡ d) → (c ≡ d → a ≡ b) → (a == b) ≡ (c == d)
 eqb-by a b c d forth back =
     same_test (a == b) (c == d) (λ e. (Decides-eqb c d).1 (forth ((Decides-eqb a b).0 e))) (λ e. (Decides-eqb a b).1 (back ((Decides-eqb c d).0 e)))
 

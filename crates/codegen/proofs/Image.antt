@@ -18,7 +18,7 @@ use Rattle.runtime_lib.specs.Library.{library}
 use Rattle.runtime_lib.specs.Routines.{routines_count}
 use Rattle.runtime_lib.proofs.LibraryLaws.{library-labels, library-placed, placed_there}
 use Rattle.codegen.specs.Operations.{main_label, raise_label, item_label}
-use Rattle.codegen.specs.Program.{program, header, data_items, packed, data_bytes, raiser, prologue, last_piece, branch_items, all_op_items, ops_size, item_places, library_place, branches_place, branches_start, raise_place, main_place, op_place, text_address}
+use Rattle.codegen.specs.Program.{program, header, data_items, packed, data_bytes, raiser, prologue, last_piece, branch_items, all_op_items, ops_size, item_places, library_place, branches_place, branches_start, raise_place, main_place, op_place, named_text, first_item}
 use Rattle.codegen.proofs.PlacedOps.{length-op_items, place_of_mark, length-item_places}
 
 -- the parts of a program's items, one after another, where they stand in a memory
@@ -28,8 +28,8 @@ pub record PartsStand (ir : Ir) (code entry : ℕ → ℕ) (base : ℕ) : Type 0
   pub routines : Stands (map (shifted_item 1) library.items) code entry (base + 4 * library_place ir)
   pub branches : Stands (branch_items (marks_in ir.marks + 1) 0) code entry (base + 4 * branches_place ir)
   pub raising : Stands (items raiser) code entry (base + 4 * raise_place ir)
-  pub main : Stands (items prologue) code entry (base + 4 * main_place ir)
-  pub ops : Stands (all_op_items ir ++ items last_piece) code entry (base + 4 * (main_place ir + size prologue))
+  pub main : Stands (items (prologue (first_item ir))) code entry (base + 4 * main_place ir)
+  pub ops : Stands (all_op_items ir ++ items last_piece) code entry (base + 4 * (main_place ir + size (prologue (first_item ir))))
 
 -- the second of two lists, after some others
 next_part : (n : ℕ) (xs ys : List Item) (code entry : ℕ → ℕ) (base : ℕ) → Stands (xs ++ ys) code entry (base + 4 * n) → Stands ys code entry (base + 4 * (n + length xs))
@@ -56,22 +56,22 @@ parts_stand ir code entry base h =
     let routines = map (shifted_item 1) library.items in
     let branches = branch_items (marks_in ir.marks + 1) 0 in
     let last = all_op_items ir ++ items last_piece in
-    let h1 = next_part 0 header (texts ++ (routines ++ (branches ++ (items raiser ++ (items prologue ++ last))))) code entry base (subst (Stands (header ++ (texts ++ (routines ++ (branches ++ (items raiser ++ (items prologue ++ last)))))) code entry) (let e : base ≡ base + 4 * 0 = omega arith in e) h) in
-    let h2 = next_part (length header) texts (routines ++ (branches ++ (items raiser ++ (items prologue ++ last)))) code entry base h1 in
-    let h3 = next_part (length header + length texts) routines (branches ++ (items raiser ++ (items prologue ++ last))) code entry base h2 in
-    let h4 = next_part (length header + length texts + length routines) branches (items raiser ++ (items prologue ++ last)) code entry base h3 in
-    let h5 = next_part (length header + length texts + length routines + length branches) (items raiser) (items prologue ++ last) code entry base h4 in
-    let h6 = next_part (length header + length texts + length routines + length branches + length (items raiser)) (items prologue) last code entry base h5 in
+    let h1 = next_part 0 header (texts ++ (routines ++ (branches ++ (items raiser ++ (items (prologue (first_item ir)) ++ last))))) code entry base (subst (Stands (header ++ (texts ++ (routines ++ (branches ++ (items raiser ++ (items (prologue (first_item ir)) ++ last)))))) code entry) (let e : base ≡ base + 4 * 0 = omega arith in e) h) in
+    let h2 = next_part (length header) texts (routines ++ (branches ++ (items raiser ++ (items (prologue (first_item ir)) ++ last)))) code entry base h1 in
+    let h3 = next_part (length header + length texts) routines (branches ++ (items raiser ++ (items (prologue (first_item ir)) ++ last))) code entry base h2 in
+    let h4 = next_part (length header + length texts + length routines) branches (items raiser ++ (items (prologue (first_item ir)) ++ last)) code entry base h3 in
+    let h5 = next_part (length header + length texts + length routines + length branches) (items raiser) (items (prologue (first_item ir)) ++ last) code entry base h4 in
+    let h6 = next_part (length header + length texts + length routines + length branches + length (items raiser)) (items (prologue (first_item ir))) last code entry base h5 in
     let b = length-data (packed (data_bytes ir)) in
     let c = length-routines in
     let d = length-branches (marks_in ir.marks + 1) 0 in
     record {
-      begin = stands_front header (texts ++ (routines ++ (branches ++ (items raiser ++ (items prologue ++ last))))) code entry base h;
-      texts = stands_front texts (routines ++ (branches ++ (items raiser ++ (items prologue ++ last)))) code entry (base + 4 * 3) h1;
-      routines = moved _ code entry base _ _ (omega (arith, b)) (stands_front routines (branches ++ (items raiser ++ (items prologue ++ last))) code entry (base + 4 * (length header + length texts)) h2);
-      branches = moved _ code entry base _ _ (omega (arith, b, c)) (stands_front branches (items raiser ++ (items prologue ++ last)) code entry (base + 4 * (length header + length texts + length routines)) h3);
-      raising = moved _ code entry base _ _ (omega (arith, b, c, d)) (stands_front (items raiser) (items prologue ++ last) code entry (base + 4 * (length header + length texts + length routines + length branches)) h4);
-      main = moved _ code entry base _ _ (omega (arith, b, c, d)) (stands_front (items prologue) last code entry (base + 4 * (length header + length texts + length routines + length branches + length (items raiser))) h5);
+      begin = stands_front header (texts ++ (routines ++ (branches ++ (items raiser ++ (items (prologue (first_item ir)) ++ last))))) code entry base h;
+      texts = stands_front texts (routines ++ (branches ++ (items raiser ++ (items (prologue (first_item ir)) ++ last)))) code entry (base + 4 * 3) h1;
+      routines = moved _ code entry base _ _ (omega (arith, b)) (stands_front routines (branches ++ (items raiser ++ (items (prologue (first_item ir)) ++ last))) code entry (base + 4 * (length header + length texts)) h2);
+      branches = moved _ code entry base _ _ (omega (arith, b, c)) (stands_front branches (items raiser ++ (items (prologue (first_item ir)) ++ last)) code entry (base + 4 * (length header + length texts + length routines)) h3);
+      raising = moved _ code entry base _ _ (omega (arith, b, c, d)) (stands_front (items raiser) (items (prologue (first_item ir)) ++ last) code entry (base + 4 * (length header + length texts + length routines + length branches)) h4);
+      main = moved _ code entry base _ _ (omega (arith, b, c, d)) (stands_front (items (prologue (first_item ir))) last code entry (base + 4 * (length header + length texts + length routines + length branches + length (items raiser))) h5);
       ops = moved _ code entry base _ _ (omega (arith, b, c, d)) h6;
     }
 
@@ -111,9 +111,9 @@ length-program ir long =
     let texts = data_items (packed (data_bytes ir)) in
     let routines = map (shifted_item 1) library.items in
     let branches = branch_items (marks_in ir.marks + 1) 0 in
-    let all = seven_lengths header texts routines branches (items raiser) (items prologue) (all_op_items ir ++ items last_piece) in
+    let all = seven_lengths header texts routines branches (items raiser) (items (prologue (first_item ir))) (all_op_items ir ++ items last_piece) in
     let ops = length-append (all_op_items ir) (items last_piece) in
-    let own = length-op_items (text_address ir) (branches_start ir) ir.ops ir.marks 0 long in
+    let own = length-op_items (named_text ir) (branches_start ir) ir.ops ir.marks 0 long in
     let b = length-data (packed (data_bytes ir)) in
     let c = length-routines in
     let d = length-branches (marks_in ir.marks + 1) 0 in
@@ -166,16 +166,16 @@ module _ (ir : Ir) where
       omega (arith, place)
 
   -- a place after those of the library
-  after_routines : (k : ℕ) → slice_get (program ir).places (k + 17) ≡ slice_get rest_places k
+  after_routines : (k : ℕ) → slice_get (program ir).places (k + raise_label) ≡ slice_get rest_places k
   after_routines k =
-      ap (λ ps. slice_get ps (k + 17)) places_are
-      ∙ get_after (Some (main_place ir) ∷ routine_places) rest_places (k + 17) k (let n = length-routine_places in omega (arith, n))
+      ap (λ ps. slice_get ps (k + raise_label)) places_are
+      ∙ get_after (Some (main_place ir) ∷ routine_places) rest_places (k + raise_label) k (let n = length-routine_places in omega (arith, n))
 
   pub item-address : (base item : ℕ) → length ir.marks ≡ length ir.ops → (pc : ℕ) → is_marked ir pc ≡ true → item_from ir pc ≡ item → item < marks_in ir.marks → label_address (program ir).places base (item_label item) ≡ base + 4 * op_place ir pc
   unfolding is_marked item_from
   item-address base item long pc marked counted low =
       let many = length-item_places ir.ops ir.marks (op_place ir 0) long in
-      let there = ap (slice_get (program ir).places) (let e : item + 18 ≡ suc item + 17 = omega arith in e) ∙ after_routines (suc item)
+      let there = ap (slice_get (program ir).places) (let e : item_label item ≡ suc item + raise_label = omega arith in e) ∙ after_routines (suc item)
       ∙ get_front item_part (Some (op_place ir (length ir.ops)) ∷ []) item (omega (arith, low, many))
       ∙ place_of_mark ir.ops ir.marks (op_place ir 0) pc item long marked counted in
       ap (λ p. base + 4 * place_in p) there ∙ omega arith
@@ -183,6 +183,6 @@ module _ (ir : Ir) where
   pub end-address : (base : ℕ) → length ir.marks ≡ length ir.ops → label_address (program ir).places base (item_label (marks_in ir.marks)) ≡ base + 4 * op_place ir (length ir.ops)
   end-address base long =
       let many = length-item_places ir.ops ir.marks (op_place ir 0) long in
-      let there = ap (slice_get (program ir).places) (let e : marks_in ir.marks + 18 ≡ suc (marks_in ir.marks) + 17 = omega arith in e) ∙ after_routines (suc (marks_in ir.marks))
+      let there = ap (slice_get (program ir).places) (let e : item_label (marks_in ir.marks) ≡ suc (marks_in ir.marks) + raise_label = omega arith in e) ∙ after_routines (suc (marks_in ir.marks))
       ∙ get_after item_part (Some (op_place ir (length ir.ops)) ∷ []) (marks_in ir.marks) 0 (omega (arith, many)) in
       ap (λ p. base + 4 * place_in p) there

@@ -1,8 +1,5 @@
 -- The operations that go elsewhere, and those that end a run.
-use Rattle.std.proofs.Common.{◌≡◌, ℕ, ◌+◌, ◌^◌, ◌<◌, ◌==◌, inl, Bool, true, false, ℤ, pos, refl, sym, ap, subst, ◌∙◌, arith}
-use Rattle.std.proofs.lemmas.Bool.Decides.{Decides-int_eq, Decides-eqb}
-use Rattle.std.proofs.lemmas.Int.{of_z-to_z}
-use Rattle.std.specs.Int.{w32}
+use Rattle.std.proofs.Common.{◌≡◌, ℕ, ◌+◌, ◌<◌, inl, true, false, ℤ, pos, refl, sym, subst, ◌∙◌, arith}
 use Rattle.std.specs.Ordering.{int_eq}
 use Rattle.bas_ir.specs.declared.op.Op.TheVariants as o
 use Rattle.bas_ir.specs.Effects.{Effect, Goes, go_if}
@@ -11,7 +8,6 @@ use Rattle.bas_sem.specs.Actions.{raise}
 use Rattle.bas_sem.specs.Calls.{GoOn}
 use Rattle.bas_sem.specs.Course.{Value, Over}
 use Rattle.bas_sem.specs.State.{State}
-use Rattle.bv_num.specs.Bits.{signed, pattern}
 use Rattle.bv_run.specs.declared.report.Report.TheVariants.{Done}
 use Rattle.arm2_alu.proofs.ValueLaws.{compared}
 use Rattle.arm_core.specs.Core.{Core, IsGood, put, word}
@@ -24,22 +20,7 @@ use Rattle.codegen.specs.Operations.{Named, op_code, item_label}
 use Rattle.codegen.specs.Outcomes.{Arrives}
 use Rattle.codegen.specs.StandsFor.{Site, StandsFor}
 use Rattle.codegen.proofs.Arriving.{CodeAsks, CodeDoes, without_top, free_room, raise_over, raise_by}
-
--- a number is 0 where its register is
-pub zero-is : (r : ℕ) (value : ℤ) → r < 2 ^ 32 → signed r ≡ value → int_eq value (pos 0) ≡ (r == 0)
-zero-is r value small is = by (int_eq value (pos 0)) (r == 0) (Decides-int_eq value (pos 0)) (Decides-eqb r 0)
-  where
-    forth : value ≡ pos 0 → r ≡ 0
-    forth e = sym (of_z-to_z w32 r small) ∙ ap pattern (is ∙ e)
-
-    back : r ≡ 0 → value ≡ pos 0
-    back e = sym is ∙ ap signed e
-
-    by : (a b : Bool) → ((a ≡ true → value ≡ pos 0) × (value ≡ pos 0 → a ≡ true)) → ((b ≡ true → r ≡ 0) × (r ≡ 0 → b ≡ true)) → a ≡ b
-    by true true d e = refl
-    by false false d e = refl
-    by true false d e = sym (e.1 (forth (d.0 refl)))
-    by false true d e = d.1 (back (e.0 refl))
+use Rattle.codegen.proofs.NumberFacts.{equal_by}
 
 module _ {image : Site} {st : State} {s : Core} (texts : Named) where
   -- to an item, with nothing pending
@@ -54,10 +35,11 @@ module _ {image : Site} {st : State} {s : Core} (texts : Named) where
       let g = without_top f in
       let room = free_room g in
       let is = after-eq r 0 s (good.regs 0) (omega arith) in
+      let zero = equal_by r 0 value (pos 0) (good.regs 0) (omega arith) f.numbers.0 refl in
       test_then (compared r 0) refl refl
       (pull_then (s.regs 12) (word s.mem (s.regs 12)) (s.regs 12 + 4) refl refl (omega (arith, room)) (omega (arith, room)) (omega (arith, room))
       (λ small.
-      leave_if_then (λ e. arrives (zero-is r value (good.regs 0) f.numbers.0 ∙ sym is ∙ e)) (λ e. end_here (falls (zero-is r value (good.regs 0) f.numbers.0 ∙ sym is ∙ e)))))
+      leave_if_then (λ e. arrives (zero ∙ sym is ∙ e)) (λ e. end_here (falls (zero ∙ sym is ∙ e)))))
     where
       last : Core
       last = put 0 (word s.mem (s.regs 12)) (put 12 (s.regs 12 + 4) (flagged_by (compared (s.regs 0) 0) s))

@@ -12,6 +12,7 @@ mod LoopOps
 mod TurnOps
 mod NumberFacts
 mod ArithmeticOps
+mod DataOps
 mod ShiftOps
 mod OpOwes
 mod OpFacts

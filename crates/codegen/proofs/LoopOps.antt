@@ -1,15 +1,13 @@
 -- The operations that open and close loops and GOSUBs, other than NEXT, and those of ON.
 use Rattle.std.proofs.Common.{◌≡◌, ℕ, zero, suc, ◌+◌, ◌-◌, ◌*◌, ◌^◌, ◌<◌, ◌≤◌, ◌==◌, inl, inr, Bool, true, false, ℤ, pos, negsuc, ◌∷◌, length, Option, None, Some, refl, sym, ap, subst, ◌∙◌, arith, lt-ltb, ltb-true, ltb-false, ◌-ℤ◌}
-use Rattle.std.proofs.lemmas.Bool.Decides.{Decides-int_eq, Decides-eqb}
-use Rattle.std.proofs.lemmas.Int.{ints, of_z-to_z}
-use Rattle.std.specs.Int.{w32}
+use Rattle.std.proofs.lemmas.Int.{ints}
 use Rattle.std.specs.Int.Signed.{lt_z}
 use Rattle.std.specs.Ordering.{int_eq}
 use Rattle.bas_ir.specs.declared.op.Counter.{Counter}
 use Rattle.bas_ir.specs.declared.op.Counter.TheVariants as counters
 use Rattle.bas_ir.specs.declared.op.Op.TheVariants as o
 use Rattle.bas_ir.specs.Coded.{HasCounterWidth}
-use Rattle.bas_ir.specs.Effects.{Effect, Falls, Goes, Opens, counted_down, go_if_one, gosub_if_one, raise_if_one, cell_of, round_or_on}
+use Rattle.bas_ir.specs.Effects.{Effect, Falls, Goes, Opens, counted_down, go_if_one, go_if_equal, gosub_if_one, raise_if_one, cell_of, round_or_on}
 use Rattle.bas_ir.specs.Places.{Pending, nothing, pushed}
 use Rattle.bas_sem.specs.Actions.{raise}
 use Rattle.bas_sem.specs.Calls.{GoOn}
@@ -20,7 +18,7 @@ use Rattle.bas_store.specs.Opened as store
 use Rattle.bas_store.specs.Opened.{Until, EndWhile, Return, Found}
 use Rattle.bas_store.specs.Stored.{Opening, For, Repeat, While, Gosub}
 use Rattle.bas_value.specs.Errors.{no_room, no_repeat, no_while, no_subroutine}
-use Rattle.bv_num.specs.Bits.{signed, pattern}
+use Rattle.bv_num.specs.Bits.{signed}
 use Rattle.arm2_alu.specs.Operations.{is_signed_word}
 use Rattle.arm2_alu.proofs.ValueLaws.{compared, minus}
 use Rattle.arm_core.specs.Core.{Core, IsGood, put, word, put_word}
@@ -38,29 +36,19 @@ use Rattle.codegen.specs.Operations.{Named, op_code, raise_label, item_label, dr
 use Rattle.codegen.specs.Outcomes.{LeadsTo, ComesOpened, Arrives}
 use Rattle.codegen.specs.StandsFor.{Site, IsSite, AreEntries, cell_word, StandsFor}
 use Rattle.codegen.proofs.Arriving.{CodeAsks, CodeDoes, Free, IsShort, without_top, free_room, load_then, drop_end, over_by, raise_over, raise_by}
-use Rattle.codegen.proofs.NumberFacts.{difference-is}
+use Rattle.codegen.proofs.EntryLaws.{eqb-by}
+use Rattle.codegen.proofs.NumberFacts.{difference-is, equal_by}
 use Rattle.codegen.proofs.PendingLaws.{numbers_room}
 use Rattle.codegen.proofs.OpenOps.{opened_state, open_end, open_then, left_open, IsClosed, close_then, holds_opened}
-use Rattle.codegen.proofs.LeavingOps.{zero-is}
 use Rattle.codegen.proofs.StateLaws.{entry_kept, entries_kept}
 
+-- ---- a number that is another
+
+-- as the comparison of their registers says it, the other way round
+equal_other : (a b : ℕ) (x y : ℤ) → a < 2 ^ 32 → b < 2 ^ 32 → signed a ≡ x → signed b ≡ y → int_eq x y ≡ (b == a)
+equal_other a b x y low high first second = equal_by a b x y low high first second ∙ eqb-by a b b a (λ e. sym e) (λ e. sym e)
+
 -- ---- a number that counts down
-
--- a number is 1 where its register is
-one-is : (r : ℕ) (value : ℤ) → r < 2 ^ 32 → signed r ≡ value → int_eq value (pos 1) ≡ (r == 1)
-one-is r value small is = by (int_eq value (pos 1)) (r == 1) (Decides-int_eq value (pos 1)) (Decides-eqb r 1)
-  where
-    forth : value ≡ pos 1 → r ≡ 1
-    forth e = sym (of_z-to_z w32 r small) ∙ ap pattern (is ∙ e)
-
-    back : r ≡ 1 → value ≡ pos 1
-    back e = sym is ∙ ap signed e
-
-    by : (a b : Bool) → ((a ≡ true → value ≡ pos 1) × (value ≡ pos 1 → a ≡ true)) → ((b ≡ true → r ≡ 1) × (r ≡ 1 → b ≡ true)) → a ≡ b
-    by true true d e = refl
-    by false false d e = refl
-    by true false d e = sym (e.1 (forth (d.0 refl)))
-    by false true d e = d.1 (back (e.0 refl))
 
 -- one less, where it is above 1
 counted-is : (r : ℕ) (value : ℤ) → r < 2 ^ 32 → signed r ≡ value → lt_z (signed 1) (signed r) ≡ true → signed (minus r 1) ≡ counted_down value
@@ -190,7 +178,7 @@ module _ {image : Site} {st : State} {s : Core} (site : IsSite image) (named : N
       → Owes CodeAsks CodeDoes (op_code named (o.GoIfOne item)) (Arrives image (Value (go_if_one (int_eq value (pos 1)) item value nothing) st)) s
   go_if_one_owes item value f good =
       let is = after-eq (s.regs 0) 1 s (good.regs 0) (omega arith) in
-      let one = one-is (s.regs 0) value (good.regs 0) f.numbers.0 in
+      let one = equal_by (s.regs 0) 1 value (pos 1) (good.regs 0) (omega arith) f.numbers.0 refl in
       let g = without_top f in
       test_then (compared (s.regs 0) 1) refl refl
       (when_then
@@ -199,11 +187,30 @@ module _ {image : Site} {st : State} {s : Core} (site : IsSite image) (named : N
       (λ e. count_end {p = nothing} value f good
       (λ t h. subst (λ b. Arrives image (Value (go_if_one b item value nothing) st) demands.Falls t) (sym (one ∙ sym is ∙ e)) (record { by = (refl, h) }))))
 
+  -- the number below the topmost one is left where they differ
+  pub go_if_equal_owes : (item : ℕ) (y x : ℤ) → StandsFor image (pushed y (pushed x nothing)) st s → IsGood s
+      → Owes CodeAsks CodeDoes (op_code named (o.GoIfEqual item)) (Arrives image (Value (go_if_equal (int_eq y x) item x nothing) st)) s
+  go_if_equal_owes item y x f good =
+      let a = s.regs 12 in
+      let r = word s.mem a in
+      let room = free_room (without_top f) in
+      pull_then a r (a + 4) refl refl (omega (arith, room)) (omega (arith, room)) (omega (arith, room))
+      (λ small.
+      let is = after-eq r (s.regs 0) (put 1 r (put 12 (a + 4) s)) small (good.regs 0) in
+      let same = equal_other (s.regs 0) r y x (good.regs 0) small f.numbers.0 f.numbers.1.0 in
+      test_then (compared r (s.regs 0)) refl refl
+      (set_then r refl refl
+      (when_then
+      (λ e. drop_then {image = image} {p = nothing} {st = st} (record { holds = f.holds; numbers = f.numbers.1.1; texts = f.texts })
+      (λ t h. leave_then (subst (λ b. Arrives image (Value (go_if_equal b item x nothing) st) (Leaves (ToLabel (item_label item))) t) (sym (same ∙ sym is ∙ e)) (record { by = (inl refl, h) }))))
+      (λ e. end_here (subst (λ b. Arrives image (Value (go_if_equal b item x nothing) st) demands.Falls (put 0 r (flagged_by (compared r (s.regs 0)) (put 1 r (put 12 (a + 4) s))))) (sym (same ∙ sym is ∙ e))
+      (record { by = (refl, record { holds = f.holds; numbers = f.numbers.1; texts = f.texts }) }))))))
+
   pub raise_if_one_owes : (p : Pending) (error line : ℕ) (value : ℤ) → error < 256 → line < 65536 → StandsFor image (pushed value p) st s → IsGood s
       → Owes CodeAsks CodeDoes (op_code named (o.RaiseIfOne error line)) (Arrives image (raise_if_one (int_eq value (pos 1)) error line value p st)) s
   raise_if_one_owes p error line value known fits f good =
       let is = after-eq (s.regs 0) 1 s (good.regs 0) (omega arith) in
-      let one = one-is (s.regs 0) value (good.regs 0) f.numbers.0 in
+      let one = equal_by (s.regs 0) 1 value (pos 1) (good.regs 0) (omega arith) f.numbers.0 refl in
       test_then (compared (s.regs 0) 1) refl refl
       (when_then
       (λ e. raise_by (raise {A = Effect} error line st) error line (raise_over {A = Effect} error line st f.holds.unhandled) known fits f.holds
@@ -212,10 +219,10 @@ module _ {image : Site} {st : State} {s : Core} (site : IsSite image) (named : N
       (λ t h. subst (λ b. Arrives image (raise_if_one b error line value p st) demands.Falls t) (sym (one ∙ sym is ∙ e)) (record { by = (refl, h) }))))
 
   pub gosub_if_one_owes : (item line : ℕ) (value : ℤ) → line < 65536 → StandsFor image (pushed value nothing) st s → IsGood s
-      → Owes CodeAsks CodeDoes (op_code named (o.GosubIfOne item line)) (Arrives image (Value (gosub_if_one (int_eq value (pos 1)) item line value nothing) st)) s
+      → Owes CodeAsks CodeDoes (op_code named (o.GosubIfOne line item)) (Arrives image (Value (gosub_if_one (int_eq value (pos 1)) item line value nothing) st)) s
   gosub_if_one_owes item line value fits f good =
       let is = after-eq (s.regs 0) 1 s (good.regs 0) (omega arith) in
-      let one = one-is (s.regs 0) value (good.regs 0) f.numbers.0 in
+      let one = equal_by (s.regs 0) 1 value (pos 1) (good.regs 0) (omega arith) f.numbers.0 refl in
       let g = without_top f in
       test_then (compared (s.regs 0) 1) refl refl
       (when_then
@@ -241,7 +248,7 @@ module _ {image : Site} {st : State} {s : Core} (site : IsSite image) (named : N
       (open_end While line named.back fits (record { holds = f.holds; numbers = f.numbers; texts = f.texts }) short refl (back_small image named site back) back tt
       (λ over t a. opened_full line While None p over a) (λ fine t h. opened_falls line While p fine h))
 
-  pub gosub_owes : (item line : ℕ) → line < 65536 → StandsFor image nothing st s → Owes CodeAsks CodeDoes (op_code named (o.Gosub item line)) (Arrives image (Value (Opens line Gosub (Some item) nothing) st)) s
+  pub gosub_owes : (item line : ℕ) → line < 65536 → StandsFor image nothing st s → Owes CodeAsks CodeDoes (op_code named (o.Gosub line item)) (Arrives image (Value (Opens line Gosub (Some item) nothing) st)) s
   gosub_owes item line fits f =
       set_then 3 refl refl
       (open_then Gosub line named.back fits (record { holds = f.holds; numbers = f.numbers; texts = f.texts }) (omega arith) refl (back_small image named site back) back tt
@@ -292,7 +299,7 @@ module _ {image : Site} {st : State} {s : Core} (site : IsSite image) (named : N
         (ap (λ c. on_value (on_value c (settle (int_eq value (pos 0)))) (λ back. give (round_or_on nothing back))) (raise_over {A = Found} no_repeat line st f.holds.unhandled))
         (λ e t good c.
         let is = after-eq (t.regs 0) 0 t (good.regs 0) (omega arith) in
-        let zero_is = zero-is (t.regs 0) value (good.regs 0) c.stands.numbers.0 in
+        let zero_is = equal_by (t.regs 0) 0 value (pos 0) (good.regs 0) (omega arith) c.stands.numbers.0 refl in
         let g = without_top c.stands in
         let r = t.regs 12 in
         let room = free_room g in

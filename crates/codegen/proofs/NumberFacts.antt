@@ -1,5 +1,5 @@
 -- What the processor's results are as numbers of the language.
-use Rattle.std.proofs.Common.{◌≡◌, ℕ, zero, suc, ◌+◌, ◌-◌, ◌%◌, ◌^◌, ◌<◌, ◌≤◌, ◌==◌, ◌&&◌, ◌⊎◌, inl, inr, nat_lt, Bool, true, false, if◌then◌else◌, ℤ, pos, negsuc, neg_ℤ, ◌+ℤ◌, ◌-ℤ◌, unsigned_abs, Ok, Err, FitsSigned, refl, sym, ap, ◌∙◌, arith, lt-ltb, ltb-true, ltb-false}
+use Rattle.std.proofs.Common.{◌≡◌, ℕ, zero, suc, ◌+◌, ◌-◌, ◌%◌, ◌^◌, ◌<◌, ◌≤◌, ◌==◌, ◌&&◌, ◌⊎◌, inl, inr, nat_lt, List, drop, Bool, true, false, if◌then◌else◌, ℤ, pos, negsuc, neg_ℤ, ◌+ℤ◌, ◌-ℤ◌, unsigned_abs, Ok, Err, FitsSigned, refl, sym, ap, subst, ◌∙◌, arith, lt-ltb, ltb-true, ltb-false}
 use Rattle.std.proofs.lemmas.Bool.{cases_lt}
 use Rattle.std.proofs.lemmas.Bool.Decides.{Decides-int_eq, Decides-eqb}
 use Rattle.std.proofs.lemmas.Int.{ints, of_z-to_z, wrapping_add-bits, wrapping_sub-bits, int_wrap_fits}
@@ -10,6 +10,7 @@ use Rattle.std.specs.Prelude.{int_lt, int_le}
 use Rattle.bas_sem.specs.Operators.{sign}
 use Rattle.bv_num.specs.Bits.{pattern, signed, bitwise}
 use Rattle.bv_num.specs.Operation.{Operation, too_big, division_by_zero, in_range, exact, divides, operation, complement}
+use Rattle.bv_num.specs.Value.{front_value, begins_with, after_spaces, signed_value, value_of, in_word, data_value}
 use Rattle.bv_num.proofs.OperationLaws.{in_range-fits}
 use Rattle.arm2_alu.specs.Operations.{is_signed_word}
 use Rattle.arm2_alu.proofs.ValueLaws.{minus, signed-low, signed-high}
@@ -65,19 +66,37 @@ equal-is a b low high = by (int_eq (signed a) (signed b)) (a == b) (Decides-int_
     by true false d e = sym (e.1 (forth (d.0 refl)))
     by false true d e = d.1 (ap signed (e.0 refl))
 
+-- two numbers are the same where their registers are
+pub equal_by : (a b : ℕ) (x y : ℤ) → a < 2 ^ 32 → b < 2 ^ 32 → signed a ≡ x → signed b ≡ y → int_eq x y ≡ (a == b)
+equal_by a b x y low high first second = (λ i. int_eq (sym first i) (sym second i)) ∙ equal-is a b low high
+
 -- ---- errors
 
--- the errors of an operation are two
-range-errors : (t : Bool) (z : ℤ) (error : ℕ) → (if t then Ok z else Err too_big) ≡ Err error → error ≡ too_big
-range-errors true z error e = absurd (cc e)
-range-errors false z error e = sym (cc e)
+-- an error is a byte that isn't 0
+abbrev pub IsKnown : ℕ → Type 0
+IsKnown error = (0 < error) × (error < 256)
 
-pub operation-errors : (op : Operation) (x y : ℤ) (error : ℕ) → operation op x y ≡ Err error → (error ≡ division_by_zero) ⊎ (error ≡ too_big)
+known : (error n : ℕ) → n ≡ error → IsKnown n → IsKnown error
+known error n is = subst IsKnown is
+
+range-errors : (t : Bool) (z : ℤ) (error : ℕ) → (if t then Ok z else Err too_big) ≡ Err error → IsKnown error
+range-errors true z error e = absurd (cc e)
+range-errors false z error e = known error too_big (cc e) (omega arith, omega arith)
+
+pub operation-errors : (op : Operation) (x y : ℤ) (error : ℕ) → operation op x y ≡ Err error → IsKnown error
 operation-errors op x y error e = by (divides op && (unsigned_abs y == 0)) e
   where
-    by : (t : Bool) → (if t then Err division_by_zero else in_range (exact op x y)) ≡ Err error → (error ≡ division_by_zero) ⊎ (error ≡ too_big)
-    by true e = inl (cc e)
-    by false e = inr (range-errors _ (exact op x y) error e)
+    by : (t : Bool) → (if t then Err division_by_zero else in_range (exact op x y)) ≡ Err error → IsKnown error
+    by true e = known error division_by_zero (cc e) (omega arith, omega arith)
+    by false e = range-errors _ (exact op x y) error e
+
+-- that of an item of DATA is one
+pub data-errors : (text : List ℕ) (error : ℕ) → data_value text ≡ Err error → IsKnown error
+data-errors text error e = by (begins_with 38 text) e
+  where
+    by : (t : Bool) → (if t then in_word (front_value 16 (drop 1 text)) else value_of text) ≡ Err error → IsKnown error
+    by true e = range-errors _ _ error e
+    by false e = range-errors _ (signed_value (after_spaces text)) error e
 
 -- ---- one number
 

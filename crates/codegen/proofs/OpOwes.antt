@@ -1,5 +1,5 @@
 -- The code of each operation owes what the operation does.
-use Rattle.std.proofs.Common.{◌≡◌, ℕ, suc, ◌+◌, ◌*◌, ◌^◌, ◌<◌, ◌≤◌, ℤ, pos, List, [], ◌∷◌, Some, length, slice_index_or, refl, sym, subst, arith}
+use Rattle.std.proofs.Common.{◌≡◌, ℕ, suc, ◌+◌, ◌*◌, ◌^◌, ◌<◌, ◌≤◌, ℤ, pos, List, [], ◌∷◌, Some, length, slice_get, slice_index_or, refl, sym, ap, subst, ◌∙◌, arith}
 use Rattle.std.proofs.Math.Path.{transport}
 use Rattle.bas_ast.specs.declared.expressions.BinaryOp.{BinaryOp}
 use Rattle.bas_ast.specs.declared.expressions.BinaryOp.TheVariants as op
@@ -12,7 +12,7 @@ use Rattle.bas_ir.specs.declared.op.Op.TheVariants as o
 use Rattle.bas_ir.specs.Coded.{HasCode, HasWidths}
 use Rattle.bas_ir.specs.declared.op.Counter.{Counter}
 use Rattle.bas_ir.specs.declared.op.Counter.TheVariants as counters
-use Rattle.bas_ir.specs.Effects.{go_if_one, gosub_if_one, cell_of, effect}
+use Rattle.bas_ir.specs.Effects.{go_if_one, go_if_equal, gosub_if_one, cell_of, effect}
 use Rattle.bas_ir.specs.Heights.{height_after}
 use Rattle.bas_ir.specs.Places.{Pending, nothing, pushed}
 use Rattle.bas_ir.specs.WellFormed.{IsThere, IsCounter}
@@ -31,13 +31,15 @@ use Rattle.code_frag.specs.Runs.{SameCode}
 use Rattle.code_frag.proofs.Rules.{pull_then}
 use Rattle.codegen.specs.Operations.{Named, op_code, binary_code, unary_code}
 use Rattle.codegen.specs.Outcomes.{Arrives}
+use Rattle.codegen.specs.Program.{number_of_item, text_of}
 use Rattle.codegen.specs.StandsFor.{Site, IsSite, IsText, AreEntries, StandsFor}
 use Rattle.codegen.proofs.Arriving.{CodeAsks, CodeDoes, Free, without_top, free_room}
 use Rattle.codegen.proofs.ArithmeticOps.{computed, or_owes, eor_owes, and_owes, add_owes, subtract_owes, compare_owes, product_owes, quotient_owes, remainder_owes, kept_owes, minus_owes, not_owes, abs_owes, sign_owes}
+use Rattle.codegen.proofs.DataOps.{Reads, restore_owes, read_number_owes}
 use Rattle.codegen.proofs.CellOps.{push_owes, push_column_owes, push_resident_owes, store_resident_owes, push_integer_owes, store_integer_owes, push_text_owes}
 use Rattle.codegen.proofs.LeavingOps.{go_owes, go_if_zero_owes, raise_owes, end_owes}
 use Rattle.codegen.proofs.EntryLaws.{IsCloser}
-use Rattle.codegen.proofs.LoopOps.{discard_owes, go_if_one_owes, gosub_if_one_owes, raise_if_one_owes, open_for_owes, open_repeat_owes, open_while_owes, gosub_owes, until_owes, endwhile_owes, return_owes}
+use Rattle.codegen.proofs.LoopOps.{discard_owes, go_if_one_owes, go_if_equal_owes, gosub_if_one_owes, raise_if_one_owes, open_for_owes, open_repeat_owes, open_while_owes, gosub_owes, until_owes, endwhile_owes, return_owes}
 use Rattle.codegen.proofs.TurnOps.{next_owes, next_any_owes}
 use Rattle.codegen.proofs.OutputOps.{write_number_owes, write_owes, write_mark_owes, write_text_owes}
 use Rattle.codegen.proofs.ShiftOps.{shift_left_owes, shift_right_signed_owes, shift_right_owes}
@@ -47,8 +49,9 @@ abbrev pub JumpsEmpty : Op → List ℤ → List (List ℕ) → Type 0
 JumpsEmpty (o.Go item) numbers texts = (numbers ≡ []) × (texts ≡ [])
 JumpsEmpty (o.GoIfZero item) (value ∷ numbers) texts = (numbers ≡ []) × (texts ≡ [])
 JumpsEmpty (o.GoIfOne item) (value ∷ numbers) texts = (numbers ≡ []) × (texts ≡ [])
-JumpsEmpty (o.GosubIfOne item line) (value ∷ numbers) texts = (numbers ≡ []) × (texts ≡ [])
-JumpsEmpty (o.Gosub item line) numbers texts = (numbers ≡ []) × (texts ≡ [])
+JumpsEmpty (o.GosubIfOne line item) (value ∷ numbers) texts = (numbers ≡ []) × (texts ≡ [])
+JumpsEmpty (o.GoIfEqual item) (y ∷ x ∷ numbers) texts = (numbers ≡ []) × (texts ≡ [])
+JumpsEmpty (o.Gosub line item) numbers texts = (numbers ≡ []) × (texts ≡ [])
 JumpsEmpty (o.Next counter line) numbers texts = (numbers ≡ []) × (texts ≡ [])
 JumpsEmpty (o.NextAny line) numbers texts = (numbers ≡ []) × (texts ≡ [])
 JumpsEmpty (o.Until line) (value ∷ numbers) texts = (numbers ≡ []) × (texts ≡ [])
@@ -72,8 +75,9 @@ pub record Fits (ir : Ir) (op : Op) (numbers : List ℤ) (texts : List (List ℕ
   pub entries : AreEntries (length st.stored.integers) (length ir.starts) st.stored.opened
   pub jumps : JumpsEmpty op numbers texts
 
-module _ (image : Site) (address : Named) (ir : Ir) (site : IsSite image) (items_are : image.items ≡ length ir.starts) (back : address.back ≡ image.branches + 4 * image.next)
-    (literals : (number : ℕ) → number < length ir.texts → IsText image.bytes (address.text number) (slice_index_or ir.texts number [])) where
+module _ (image : Site) (address : Named) (ir : Ir) (site : IsSite image) (text_at : ℕ → ℕ) (items_are : image.items ≡ length ir.starts) (back : address.back ≡ image.branches + 4 * image.next)
+    (table_is : image.table ≡ record { address = (λ item. text_at (number_of_item ir item)); texts = ir.data_items })
+    (literals : (number : ℕ) → number < length ir.texts → IsText image.bytes (text_at number) (slice_index_or ir.texts number [])) where
   -- a word or sign
   unary_owes : (x : UnaryOp) (line : ℕ) (q : Pending) (st : State) (s : Core) → line < 65536 → IsGood s → Free image q st s → Owes CodeAsks CodeDoes (unary_code x line) (Arrives image (computed (of_one x (signed (s.regs 0))) line q st)) s
   unary_owes unary.Plus line q st s fits good f = kept_owes good f line fits unary.Plus refl
@@ -140,80 +144,90 @@ module _ (image : Site) (address : Named) (ir : Ir) (site : IsSite image) (items
   are_from : (st : State) → AreEntries (length st.stored.integers) (length ir.starts) st.stored.opened → Are st
   are_from st are = subst (λ n. AreEntries (length st.stored.integers) n st.stored.opened) (sym items_are) are
 
-  -- every operation
-  pub op_owes : (x : Op) (numbers : List ℤ) (texts : List (List ℕ)) (st : State) (s : Core) → Fits ir x numbers texts st → StandsFor image (record { numbers = numbers; texts = texts }) st s → IsGood s → SameCode image.bytes s.mem
+  -- every operation, where what it names is at its address
+  pub op_owes : (x : Op) → address.text ≡ text_at (text_of ir x) → (numbers : List ℤ) (texts : List (List ℕ)) (st : State) (s : Core) → Fits ir x numbers texts st → StandsFor image (record { numbers = numbers; texts = texts }) st s → IsGood s → SameCode image.bytes s.mem
       → Owes CodeAsks CodeDoes (op_code address x) (Arrives image (effect ir outermost x (record { numbers = numbers; texts = texts }) st)) s
-  op_owes (o.Push value) numbers texts st s c f good same = push_owes address value c.widths f good c.short
-  op_owes o.PushColumn numbers texts st s c f good same = push_column_owes address f good c.short
-  op_owes (o.PushResident index) numbers texts st s c f good same = push_resident_owes address index c.coded f good c.short
-  op_owes (o.PushInteger name line) numbers texts st s c f good same = push_integer_owes address name line (let n = c.names in let t = c.there in omega (arith, n, t)) c.widths.1 f good c.short
-  op_owes (o.PushText number) numbers texts st s c f good same = push_text_owes address number (slice_index_or ir.texts number []) (literals number c.there) f good c.short
-  op_owes (o.Unary x line) [] texts st s c f good same = absurd (let e = c.finds in cc e)
-  op_owes (o.Unary x line) (value ∷ numbers) texts st s c f good same =
+  op_owes (o.Push value) named numbers texts st s c f good same = push_owes address value c.widths f good c.short
+  op_owes o.PushColumn named numbers texts st s c f good same = push_column_owes address f good c.short
+  op_owes (o.PushResident index) named numbers texts st s c f good same = push_resident_owes address index c.coded f good c.short
+  op_owes (o.PushInteger name line) named numbers texts st s c f good same = push_integer_owes address name line (let n = c.names in let t = c.there in omega (arith, n, t)) c.widths.1 f good c.short
+  op_owes (o.PushText number) named numbers texts st s c f good same = push_text_owes address number (slice_index_or ir.texts number []) (subst (λ a. IsText image.bytes a (slice_index_or ir.texts number [])) (sym named) (literals number c.there)) f good c.short
+  op_owes (o.Unary x line) named [] texts st s c f good same = absurd (let e = c.finds in cc e)
+  op_owes (o.Unary x line) named (value ∷ numbers) texts st s c f good same =
       let q : Pending = record { numbers = numbers; texts = texts } in
       subst (λ v. Owes CodeAsks CodeDoes (unary_code x line) (Arrives image (computed (of_one x v) line q st)) s) f.numbers.0 (unary_owes x line q st s c.widths good (without_top f))
-  op_owes (o.Binary x line) [] texts st s c f good same = absurd (let e = c.finds in cc e)
-  op_owes (o.Binary x line) (value ∷ []) texts st s c f good same = absurd (let e = c.finds in cc e)
-  op_owes (o.Binary x line) (y ∷ z ∷ numbers) texts st s c f good same = binary_from x line y z numbers texts st s c.widths c.short f good
-  op_owes (o.StoreResident index) [] texts st s c f good same = absurd (let e = c.finds in cc e)
-  op_owes (o.StoreResident index) (value ∷ numbers) texts st s c f good same = store_resident_owes address index value c.coded f good (let h = c.short in omega (arith, h))
-  op_owes (o.StoreInteger name) [] texts st s c f good same = absurd (let e = c.finds in cc e)
-  op_owes (o.StoreInteger name) (value ∷ numbers) texts st s c f good same = store_integer_owes address name value (let n = c.names in let t = c.there in omega (arith, n, t)) f good (let h = c.short in omega (arith, h))
-  op_owes (o.WriteNumber padded format) [] texts st s c f good same = absurd (let e = c.finds in cc e)
-  op_owes (o.WriteNumber padded format) (value ∷ numbers) texts st s c f good same = write_number_owes address padded format value f (let h = c.short in omega (arith, h))
-  op_owes o.WriteText numbers [] st s c f good same = absurd (let e = c.finds in cc e)
-  op_owes o.WriteText numbers (text ∷ texts) st s c f good same = write_text_owes address (record { numbers = numbers; texts = texts }) text f good same c.short
-  op_owes (o.Write x) [] texts st s c f good same = absurd (let e = c.finds in cc e)
-  op_owes (o.Write x) (value ∷ numbers) texts st s c f good same = write_owes address x value f good (let h = c.short in omega (arith, h))
-  op_owes (o.WriteMark x) numbers texts st s c f good same = write_mark_owes address x f good c.short
-  op_owes (o.Go item) numbers texts st s c f good same = go_from item numbers texts st s c.jumps f
-  op_owes (o.GoIfZero item) [] texts st s c f good same = absurd (let e = c.finds in cc e)
-  op_owes (o.GoIfZero item) (value ∷ numbers) texts st s c f good same = go_if_zero_from item value numbers texts st s c.jumps f good
-  op_owes o.Discard [] texts st s c f good same = absurd (let e = c.finds in cc e)
-  op_owes o.Discard (value ∷ numbers) texts st s c f good same = discard_owes site address back (record { numbers = numbers; texts = texts }) value f
-  op_owes (o.GoIfOne item) [] texts st s c f good same = absurd (let e = c.finds in cc e)
-  op_owes (o.GoIfOne item) (value ∷ numbers) texts st s c f good same =
+  op_owes (o.Binary x line) named [] texts st s c f good same = absurd (let e = c.finds in cc e)
+  op_owes (o.Binary x line) named (value ∷ []) texts st s c f good same = absurd (let e = c.finds in cc e)
+  op_owes (o.Binary x line) named (y ∷ z ∷ numbers) texts st s c f good same = binary_from x line y z numbers texts st s c.widths c.short f good
+  op_owes (o.StoreResident index) named [] texts st s c f good same = absurd (let e = c.finds in cc e)
+  op_owes (o.StoreResident index) named (value ∷ numbers) texts st s c f good same = store_resident_owes address index value c.coded f good (let h = c.short in omega (arith, h))
+  op_owes (o.StoreInteger name) named [] texts st s c f good same = absurd (let e = c.finds in cc e)
+  op_owes (o.StoreInteger name) named (value ∷ numbers) texts st s c f good same = store_integer_owes address name value (let n = c.names in let t = c.there in omega (arith, n, t)) f good (let h = c.short in omega (arith, h))
+  op_owes (o.WriteNumber padded format) named [] texts st s c f good same = absurd (let e = c.finds in cc e)
+  op_owes (o.WriteNumber padded format) named (value ∷ numbers) texts st s c f good same = write_number_owes address padded format value f (let h = c.short in omega (arith, h))
+  op_owes o.WriteText named numbers [] st s c f good same = absurd (let e = c.finds in cc e)
+  op_owes o.WriteText named numbers (text ∷ texts) st s c f good same = write_text_owes address (record { numbers = numbers; texts = texts }) text f good same c.short
+  op_owes (o.Write x) named [] texts st s c f good same = absurd (let e = c.finds in cc e)
+  op_owes (o.Write x) named (value ∷ numbers) texts st s c f good same = write_owes address x value f good (let h = c.short in omega (arith, h))
+  op_owes (o.WriteMark x) named numbers texts st s c f good same = write_mark_owes address x f good c.short
+  op_owes (o.Go item) named numbers texts st s c f good same = go_from item numbers texts st s c.jumps f
+  op_owes (o.GoIfZero item) named [] texts st s c f good same = absurd (let e = c.finds in cc e)
+  op_owes (o.GoIfZero item) named (value ∷ numbers) texts st s c f good same = go_if_zero_from item value numbers texts st s c.jumps f good
+  op_owes o.Discard named [] texts st s c f good same = absurd (let e = c.finds in cc e)
+  op_owes o.Discard named (value ∷ numbers) texts st s c f good same = discard_owes site address back (record { numbers = numbers; texts = texts }) value f
+  op_owes (o.GoIfOne item) named [] texts st s c f good same = absurd (let e = c.finds in cc e)
+  op_owes (o.GoIfOne item) named (value ∷ numbers) texts st s c f good same =
       subst (λ q. StandsFor image (pushed value q) st s → Owes CodeAsks CodeDoes (op_code address (o.GoIfOne item)) (Arrives image (Value (go_if_one (int_eq value (pos 1)) item value q) st)) s) (none_is c.jumps)
       (λ g. go_if_one_owes site address back item value g good) f
-  op_owes (o.GosubIfOne item line) [] texts st s c f good same = absurd (let e = c.finds in cc e)
-  op_owes (o.GosubIfOne item line) (value ∷ numbers) texts st s c f good same =
-      subst (λ q. StandsFor image (pushed value q) st s → Owes CodeAsks CodeDoes (op_code address (o.GosubIfOne item line)) (Arrives image (Value (gosub_if_one (int_eq value (pos 1)) item line value q) st)) s) (none_is c.jumps)
+  op_owes (o.GosubIfOne line item) named [] texts st s c f good same = absurd (let e = c.finds in cc e)
+  op_owes (o.GosubIfOne line item) named (value ∷ numbers) texts st s c f good same =
+      subst (λ q. StandsFor image (pushed value q) st s → Owes CodeAsks CodeDoes (op_code address (o.GosubIfOne line item)) (Arrives image (Value (gosub_if_one (int_eq value (pos 1)) item line value q) st)) s) (none_is c.jumps)
       (λ g. gosub_if_one_owes site address back item line value c.widths.1 g good) f
-  op_owes (o.RaiseIfOne error line) [] texts st s c f good same = absurd (let e = c.finds in cc e)
-  op_owes (o.RaiseIfOne error line) (value ∷ numbers) texts st s c f good same =
+  op_owes (o.RaiseIfOne error line) named [] texts st s c f good same = absurd (let e = c.finds in cc e)
+  op_owes (o.RaiseIfOne error line) named (value ∷ numbers) texts st s c f good same =
       raise_if_one_owes site address back (record { numbers = numbers; texts = texts }) error line value c.coded c.widths.1 f good
-  op_owes (o.OpenFor counter line) [] texts st s c f good same = absurd (let e = c.finds in cc e)
-  op_owes (o.OpenFor counter line) (step ∷ []) texts st s c f good same = absurd (let e = c.finds in cc e)
-  op_owes (o.OpenFor counter line) (step ∷ limit ∷ numbers) texts st s c f good same =
+  op_owes (o.GoIfEqual item) named [] texts st s c f good same = absurd (let e = c.finds in cc e)
+  op_owes (o.GoIfEqual item) named (y ∷ []) texts st s c f good same = absurd (let e = c.finds in cc e)
+  op_owes (o.GoIfEqual item) named (y ∷ x ∷ numbers) texts st s c f good same =
+      subst (λ q. StandsFor image (pushed y (pushed x q)) st s → Owes CodeAsks CodeDoes (op_code address (o.GoIfEqual item)) (Arrives image (Value (go_if_equal (int_eq y x) item x q) st)) s) (none_is c.jumps)
+      (λ g. go_if_equal_owes site address back item y x g good) f
+  op_owes (o.OpenFor counter line) named [] texts st s c f good same = absurd (let e = c.finds in cc e)
+  op_owes (o.OpenFor counter line) named (step ∷ []) texts st s c f good same = absurd (let e = c.finds in cc e)
+  op_owes (o.OpenFor counter line) named (step ∷ limit ∷ numbers) texts st s c f good same =
       open_for_owes site address back (record { numbers = numbers; texts = texts }) counter line limit step c.widths.1 c.widths.0 (let h = c.short in omega (arith, h)) f
-  op_owes (o.OpenRepeat line) numbers texts st s c f good same = open_repeat_owes site address back (record { numbers = numbers; texts = texts }) line c.widths c.short f
-  op_owes (o.OpenWhile line) numbers texts st s c f good same = open_while_owes site address back (record { numbers = numbers; texts = texts }) line c.widths c.short f
-  op_owes (o.Gosub item line) numbers texts st s c f good same =
-      subst (λ q. StandsFor image q st s → Owes CodeAsks CodeDoes (op_code address (o.Gosub item line)) (Arrives image (effect ir outermost (o.Gosub item line) q st)) s) (none_is c.jumps)
+  op_owes (o.OpenRepeat line) named numbers texts st s c f good same = open_repeat_owes site address back (record { numbers = numbers; texts = texts }) line c.widths c.short f
+  op_owes (o.OpenWhile line) named numbers texts st s c f good same = open_while_owes site address back (record { numbers = numbers; texts = texts }) line c.widths c.short f
+  op_owes (o.Gosub line item) named numbers texts st s c f good same =
+      subst (λ q. StandsFor image q st s → Owes CodeAsks CodeDoes (op_code address (o.Gosub line item)) (Arrives image (effect ir outermost (o.Gosub line item) q st)) s) (none_is c.jumps)
       (λ g. gosub_owes site address back item line c.widths.1 g) f
-  op_owes (o.Next counter line) numbers texts st s c f good same =
+  op_owes (o.Next counter line) named numbers texts st s c f good same =
       subst (λ q. StandsFor image q st s → Owes CodeAsks CodeDoes (op_code address (o.Next counter line)) (Arrives image (effect ir outermost (o.Next counter line) q st)) s) (none_is c.jumps)
       (λ g. next_owes site address (are_from st c.entries) line c.widths.1 g counter c.widths.0 (counter_there counter st c.names c.there)) f
-  op_owes (o.NextAny line) numbers texts st s c f good same =
+  op_owes (o.NextAny line) named numbers texts st s c f good same =
       subst (λ q. StandsFor image q st s → Owes CodeAsks CodeDoes (op_code address (o.NextAny line)) (Arrives image (effect ir outermost (o.NextAny line) q st)) s) (none_is c.jumps)
       (λ g. next_any_owes site address (are_from st c.entries) line c.widths g) f
-  op_owes (o.Until line) [] texts st s c f good same = absurd (let e = c.finds in cc e)
-  op_owes (o.Until line) (value ∷ numbers) texts st s c f good same =
+  op_owes (o.Until line) named [] texts st s c f good same = absurd (let e = c.finds in cc e)
+  op_owes (o.Until line) named (value ∷ numbers) texts st s c f good same =
       subst (λ q. StandsFor image (pushed value q) st s → Owes CodeAsks CodeDoes (op_code address (o.Until line)) (Arrives image (effect ir outermost (o.Until line) (pushed value q) st)) s) (none_is c.jumps)
       (λ g. until_owes site address back (are_from st c.entries) line c.widths value g) f
-  op_owes (o.EndWhile line) numbers texts st s c f good same =
+  op_owes (o.EndWhile line) named numbers texts st s c f good same =
       subst (λ q. StandsFor image q st s → Owes CodeAsks CodeDoes (op_code address (o.EndWhile line)) (Arrives image (effect ir outermost (o.EndWhile line) q st)) s) (none_is c.jumps)
       (λ g. endwhile_owes site address back (are_from st c.entries) line c.widths g) f
-  op_owes (o.Return line) numbers texts st s c f good same =
+  op_owes (o.Return line) named numbers texts st s c f good same =
       subst (λ q. StandsFor image q st s → Owes CodeAsks CodeDoes (op_code address (o.Return line)) (Arrives image (effect ir outermost (o.Return line) q st)) s) (none_is c.jumps)
       (λ g. return_owes site address back (are_from st c.entries) line c.widths g) f
-  op_owes (o.Raise error line) numbers texts st s c f good same = raise_owes address (record { numbers = numbers; texts = texts }) error line c.coded c.widths.1 f
-  op_owes o.End numbers texts st s c f good same = end_owes address (record { numbers = numbers; texts = texts }) f
-  op_owes (o.Enter kind routine line) numbers texts st s c f good same = absurd c.coded
-  op_owes (o.LeaveProcedure line) numbers texts st s c f good same = absurd c.coded
-  op_owes (o.NeedFunction line) numbers texts st s c f good same = absurd c.coded
-  op_owes o.LeaveNumber numbers texts st s c f good same = absurd c.coded
-  op_owes o.LeaveText numbers texts st s c f good same = absurd c.coded
-  op_owes (o.HandleAll item) numbers texts st s c f good same = absurd c.coded
-  op_owes (o.HandleHere item) numbers texts st s c f good same = absurd c.coded
-  op_owes o.HandleNone numbers texts st s c f good same = absurd c.coded
+  op_owes (o.ReadNumber line) named numbers texts st s c f good same =
+      subst (λ t. Owes CodeAsks CodeDoes (op_code address (o.ReadNumber line)) (Arrives image (Reads st line (record { numbers = numbers; texts = texts }) (slice_get t st.data_place))) s) (ap (λ t. t.texts) table_is)
+      (read_number_owes site line c.widths f good same c.short address)
+  op_owes (o.Restore item) named numbers texts st s c f good same =
+      restore_owes site item address.text (subst (λ t. item ≤ length t.texts) (sym table_is) c.there) (named ∙ ap (λ t. t.address item) (sym table_is)) f c.short
+  op_owes (o.Raise error line) named numbers texts st s c f good same = raise_owes address (record { numbers = numbers; texts = texts }) error line c.coded c.widths.1 f
+  op_owes o.End named numbers texts st s c f good same = end_owes address (record { numbers = numbers; texts = texts }) f
+  op_owes (o.Enter kind routine line) named numbers texts st s c f good same = absurd c.coded
+  op_owes (o.LeaveProcedure line) named numbers texts st s c f good same = absurd c.coded
+  op_owes (o.NeedFunction line) named numbers texts st s c f good same = absurd c.coded
+  op_owes o.LeaveNumber named numbers texts st s c f good same = absurd c.coded
+  op_owes o.LeaveText named numbers texts st s c f good same = absurd c.coded
+  op_owes (o.HandleAll item) named numbers texts st s c f good same = absurd c.coded
+  op_owes (o.HandleHere item) named numbers texts st s c f good same = absurd c.coded
+  op_owes o.HandleNone named numbers texts st s c f good same = absurd c.coded

@@ -20,13 +20,13 @@ use Rattle.code_frag.specs.Demands as demands
 use Rattle.code_frag.specs.Demands.{Out, Post, Leaves, ToLabel, Owes}
 use Rattle.code_frag.specs.Language as language
 use Rattle.code_frag.specs.Language.{Skip, ◌⨾◌}
-use Rattle.code_frag.specs.Regions.{opened_count_at, depth_at, arrays_start, opened_start}
+use Rattle.code_frag.specs.Regions.{opened_count_at, depth_at, next_item_at, arrays_start, opened_start}
 use Rattle.code_frag.proofs.Rules.{end_here, part_then, seq_then, skip_then, set_then, test_then, when_then, call_then, leave_then}
 use Rattle.runtime_lib.specs.Opened as library
 use Rattle.runtime_lib.specs.Opened.{entry_at, opened_count, code_of, nearest, latest, closing_error, IsApart, ComesBack, OpensEntry, CanUseEntries, Fails, ClosesEntry, Closed}
 use Rattle.codegen.specs.Operations.{raise_label, raise_if_failed, open_entry, close_entry}
 use Rattle.codegen.specs.Outcomes.{Arrives}
-use Rattle.codegen.specs.StandsFor.{Site, opening_word, HasLimits, HasEntry, HasOpened, IsEntry, AreEntries, Holds, Numbers, Texts, StandsFor}
+use Rattle.codegen.specs.StandsFor.{ItemTable, Site, opening_word, HasLimits, HasEntry, HasOpened, IsEntry, AreEntries, Holds, Numbers, Texts, StandsFor}
 use Rattle.codegen.proofs.Arriving.{CodeAsks, CodeDoes, IsShort, load_then, short_then, over_by, raise_over, raised}
 use Rattle.codegen.proofs.EntryLaws.{wanted, IsCloser, IsFound, SameFound, find_nearest}
 use Rattle.codegen.proofs.PendingLaws.{numbers_room, numbers_kept, texts_room, texts_kept}
@@ -64,8 +64,8 @@ pending_after code {s} {o} {t} p back short same numbers texts =
     )
 
 -- the state with other entries open, where only their number and their words are others
-pub holds_opened : {branches : ℕ} (st : State) (s : Core) (o : Out) (t : Core) (es : List Entry) → Holds branches st (s.regs 11) (s.regs 13) s.mem s.out → ComesBack s o t → HasOpened branches t.mem es
-    → ((a : ℕ) → a < arrays_start → IsApart opened_count_at 4 a → t.mem a ≡ s.mem a) → Holds branches (record st { stored = record st.stored { opened = es } }) (t.regs 11) (t.regs 13) t.mem t.out
+pub holds_opened : {branches : ℕ} {table : ItemTable} (st : State) (s : Core) (o : Out) (t : Core) (es : List Entry) → Holds branches table st (s.regs 11) (s.regs 13) s.mem s.out → ComesBack s o t → HasOpened branches t.mem es
+    → ((a : ℕ) → a < arrays_start → IsApart opened_count_at 4 a → t.mem a ≡ s.mem a) → Holds branches table (record st { stored = record st.stored { opened = es } }) (t.regs 11) (t.regs 13) t.mem t.out
 holds_opened st s o t es h back opened same = record {
   base_is = back.kept 11 (omega arith) (omega arith) ∙ h.base_is;
   stack_is = back.kept 13 (omega arith) (omega arith) ∙ h.stack_is;
@@ -75,15 +75,17 @@ holds_opened st s o t es h back opened same = record {
   depth = word_kept s.mem t.mem depth_at 0 h.depth (λ b from to. same b (omega (arith, to)) (inr (omega (arith, from))));
   column = word_kept s.mem t.mem _ st.column h.column (λ b from to. same b (omega (arith, to)) (inl (omega (arith, to))));
   column_small = h.column_small;
+  few_taken = h.few_taken;
+  next_item = word_kept s.mem t.mem next_item_at _ h.next_item (λ b from to. same b (omega (arith, to)) (inr (omega (arith, from))));
   has_arena = arena_kept s.mem t.mem st.arena h.has_arena (λ b low high. same b (omega (arith, high)) (inl (omega (arith, high))));
   out_is = back.out ∙ h.out_is;
   unhandled = h.unhandled;
 }
 
 -- the state where nothing of memory is another
-pub holds_same : {branches : ℕ} (st : State) (s : Core) (o : Out) (t : Core) → Holds branches st (s.regs 11) (s.regs 13) s.mem s.out → ComesBack s o t → t.mem ≡ s.mem → Holds branches st (t.regs 11) (t.regs 13) t.mem t.out
-holds_same {branches} st s o t h back mem =
-    transport (λ i. Holds branches st (sym (back.kept 11 (omega arith) (omega arith)) i) (sym (back.kept 13 (omega arith) (omega arith)) i) (sym mem i) (sym back.out i)) h
+pub holds_same : {branches : ℕ} {table : ItemTable} (st : State) (s : Core) (o : Out) (t : Core) → Holds branches table st (s.regs 11) (s.regs 13) s.mem s.out → ComesBack s o t → t.mem ≡ s.mem → Holds branches table st (t.regs 11) (t.regs 13) t.mem t.out
+holds_same {branches} {table} st s o t h back mem =
+    transport (λ i. Holds branches table st (sym (back.kept 11 (omega arith) (omega arith)) i) (sym (back.kept 13 (omega arith) (omega arith)) i) (sym mem i) (sym back.out i)) h
 
 -- ---- an entry opens
 

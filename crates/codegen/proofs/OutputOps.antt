@@ -20,7 +20,7 @@ use Rattle.bv_num.specs.Bits.{signed, pattern}
 use Rattle.arm_isa.proofs.ImmediateLaws.{immediate_value-byte}
 use Rattle.arm2_alu.proofs.RegisterLaws.{updated}
 use Rattle.arm_core.specs.Core.{Core, IsGood, put, word, put_word}
-use Rattle.arm_core.proofs.MemoryWords.{updated-other, byte-put_other, word-put_same, word-same}
+use Rattle.arm_core.proofs.MemoryWords.{updated-other, byte-put_other, word-put_same}
 use Rattle.arm_core.proofs.ShiftedOperands.{lsr-value}
 use Rattle.code_frag.specs.Demands as demands
 use Rattle.code_frag.specs.Demands.{Out, Post, Exit, Leaves, ToLabel, Owes}
@@ -33,8 +33,8 @@ use Rattle.code_frag.proofs.Rules.{end_here, seq_then, skip_then, set_then, writ
 use Rattle.runtime_lib.specs.Entries.{CanWrite, Writes, WritesPart, column_in, bytes_from, text_at}
 use Rattle.codegen.specs.Operations.{Named, op_code, reset_column, write_code}
 use Rattle.codegen.specs.Outcomes.{Arrives}
-use Rattle.codegen.specs.StandsFor.{Site, Holds, Numbers, Texts, IsText, StandsFor}
-use Rattle.codegen.proofs.Arriving.{CodeAsks, CodeDoes, Free, without_top, free_room, IsShort, with_room, free_with_room, room_then, drop_end}
+use Rattle.codegen.specs.StandsFor.{ItemTable, Site, Holds, Numbers, Texts, IsText, StandsFor}
+use Rattle.codegen.proofs.Arriving.{CodeAsks, CodeDoes, Free, free_pending, without_top, free_room, IsShort, with_room, free_with_room, room_then, drop_end}
 use Rattle.codegen.proofs.PendingLaws.{numbers_room, numbers_kept, texts_room, texts_kept}
 use Rattle.codegen.proofs.StateLaws.{holds_wrote}
 
@@ -58,28 +58,17 @@ column-small (out.Closing text line) column small = omega arith
 -- what is pending, after a part was written
 pub free_wrote : {image : Site} {p : Pending} {st : State} {s t : Core} (part : Part) → Free image p st s → IsShort p → Writes (part_bytes part (column_in s)) (column_after part (column_in s)) s t → Free image p (wrote part st) t
 free_wrote {image} {p} {st} {s} {t} part f short w =
-    let room = free_room f in
-    let below = texts_room image.bytes s.mem (s.regs 9) (s.regs 10) p.texts f.texts in
     let column = f.holds.column in
-    let eleven = w.kept 11 (omega arith) (omega arith) in
-    let twelve = w.kept 12 (omega arith) (omega arith) in
-    let thirteen = w.kept 13 (omega arith) (omega arith) in
-    let nine = w.kept 9 (omega arith) (omega arith) in
-    let ten = w.kept 10 (omega arith) (omega arith) in
-    let same : (a : ℕ) → s.regs 12 ≤ a → a < stack_start → t.mem a ≡ s.mem a = λ a low high. w.mem a (inr (omega (arith, low, room, short), high)) in
+    let pending = free_pending t f short w.kept (λ a low high. w.mem a (inr (omega (arith, low), high))) in
     record {
-      holds = holds_wrote st (s.regs 11) (s.regs 13) (t.regs 11) (t.regs 13) s.mem t.mem s.out t.out part f.holds eleven thirteen
+      holds = holds_wrote st (s.regs 11) (s.regs 13) (t.regs 11) (t.regs 13) s.mem t.mem s.out t.out part f.holds (w.kept 11 (omega arith) (omega arith)) (w.kept 13 (omega arith) (omega arith))
           (w.out ∙ ap (λ c. s.out ++ part_bytes part c) column) (w.column_is ∙ ap (column_after part) column) (column-small part st.column f.holds.column_small) w.mem;
-      numbers = subst (λ q. Numbers t.mem (q + 4) (word t.mem q) p.numbers) (sym twelve)
-          (subst (λ v. Numbers t.mem (s.regs 12 + 4) v p.numbers) (word-same s.mem t.mem (s.regs 12) (λ b low high. sym (same b low (omega (arith, high, room, short)))))
-          (numbers_kept s.mem t.mem (s.regs 12 + 4) (word s.mem (s.regs 12)) p.numbers f.numbers (λ a low high. same a (omega (arith, low)) (omega (arith, high)))));
-      texts = subst (λ q. Texts image.bytes t.mem (t.regs 9) q p.texts) (sym ten)
-          (subst (λ q. Texts image.bytes t.mem q (s.regs 10) p.texts) (sym nine)
-          (texts_kept image.bytes s.mem t.mem (s.regs 9) (s.regs 10) p.texts f.texts (λ a low high. w.mem a (inr (omega (arith, low, below, short), omega (arith, high))))));
+      numbers = pending.0;
+      texts = pending.1;
     }
 
 -- where a routine of the library may write
-pub can_write : {branches : ℕ} {st : State} {s : Core} → Holds branches st (s.regs 11) (s.regs 13) s.mem s.out → CanWrite s
+pub can_write : {branches : ℕ} {table : ItemTable} {st : State} {s : Core} → Holds branches table st (s.regs 11) (s.regs 13) s.mem s.out → CanWrite s
 can_write h = record {
   base = h.base_is;
   aligned = omega (arith, h.stack_is);
@@ -265,7 +254,7 @@ bytes-same (suc n) a m k same =
     (λ i. first i ∷ rest i)
 
 -- a text of the image is in memory
-text-is : (code : ℕ → ℕ) (s : Core) (a : ℕ) (text : List ℕ) → IsText code a text → IsGood s → SameCode code s.mem → text_at s.mem a ≡ text
+pub text-is : (code : ℕ → ℕ) (s : Core) (a : ℕ) (text : List ℕ) → IsText code a text → IsGood s → SameCode code s.mem → text_at s.mem a ≡ text
 text-is code s a text there good same =
     let len = same.kept a there.low (let h = there.high in omega (arith, h)) in
     let short = good.mem a in

@@ -31,13 +31,13 @@ used-le [] (suc pc) = omega arith
 used-le (x ∷ ops) zero = omega arith
 used-le (x ∷ ops) (suc pc) = let rest = used-le ops pc in omega (arith, rest)
 
-module _ (texts : ℕ → ℕ) (branches : ℕ) where
+module _ (texts : Op → ℕ) (branches : ℕ) where
   -- what an operation names where an item is the next one
   abbrev piece_items : ℕ → Op → List Item
-  piece_items item x = items (op_code (named texts branches item) x)
+  piece_items item x = items (op_code (named (texts x) branches item) x)
 
   pub length-piece : (item : ℕ) (x : Op) → length (piece_items item x) ≡ op_size x
-  length-piece item x = length-items (op_code (named texts branches item) x) ∙ size-named (named texts branches item) x
+  length-piece item x = length-items (op_code (named (texts x) branches item) x) ∙ size-named (named (texts x) branches item) x
 
   pub length-op_items : (ops : List Op) (marks : List Bool) (item : ℕ) → length marks ≡ length ops → length (op_items texts branches ops marks item) ≡ ops_size ops
   length-op_items [] marks item long = refl

@@ -44,7 +44,7 @@ use Rattle.bas_ir.specs.Coded.{LeavesNothing}
 use Rattle.codegen.specs.Fitting.{CanGenerate}
 use Rattle.codegen.specs.Operations.{op_code, item_label}
 use Rattle.codegen.specs.Outcomes.{Ends, Raises, LeadsTo, ComesOpened, Arrives}
-use Rattle.codegen.specs.Program.{op_place, op_size, named_at, branches_start, last_piece}
+use Rattle.codegen.specs.Program.{op_place, op_size, named_at, text_address, branches_start, last_piece}
 use Rattle.codegen.specs.StandsFor.{Site, IsNamed, AreEntries, StandsFor}
 use Rattle.codegen.proofs.Arriving.{CodeAsks, CodeDoes}
 use Rattle.codegen.proofs.EffectFacts.{Facts, IsItem, effect_facts}
@@ -129,6 +129,8 @@ module _ (ir : Ir) (code entry : ℕ → ℕ) (base : ℕ) (can : CanGenerate ir
             depth = h.depth;
             column = h.column;
             column_small = h.column_small;
+            few_taken = h.few_taken;
+            next_item = h.next_item;
             has_arena = h.has_arena;
             out_is = h.out_is;
             unhandled = h.unhandled;
@@ -205,15 +207,19 @@ module _ (ir : Ir) (code entry : ℕ → ℕ) (base : ℕ) (can : CanGenerate ir
       jumps (o.GoIfOne item) [] texts is finds none = tt
       jumps (o.GoIfOne item) (value ∷ numbers) texts is finds none =
           none_pending numbers texts (one_left numbers texts (let e = ap (height_after ir.routines (o.GoIfOne item)) is ∙ finds in let h : one_more (height_of (record { numbers = numbers; texts = texts })) ≡ height_at ir (suc pc) = cc e in h ∙ none))
-      jumps (o.GosubIfOne item line) [] texts is finds none = tt
-      jumps (o.GosubIfOne item line) (value ∷ numbers) texts is finds none =
+      jumps (o.GosubIfOne line item) [] texts is finds none = tt
+      jumps (o.GosubIfOne line item) (value ∷ numbers) texts is finds none =
           none_pending numbers texts
-          (one_left numbers texts (let e = ap (height_after ir.routines (o.GosubIfOne item line)) is ∙ finds in let h : one_more (height_of (record { numbers = numbers; texts = texts })) ≡ height_at ir (suc pc) = cc e in h ∙ none))
+          (one_left numbers texts (let e = ap (height_after ir.routines (o.GosubIfOne line item)) is ∙ finds in let h : one_more (height_of (record { numbers = numbers; texts = texts })) ≡ height_at ir (suc pc) = cc e in h ∙ none))
       jumps (o.RaiseIfOne error line) numbers texts is finds none = tt
+      jumps (o.GoIfEqual item) [] texts is finds none = tt
+      jumps (o.GoIfEqual item) (y ∷ []) texts is finds none = tt
+      jumps (o.GoIfEqual item) (y ∷ x ∷ numbers) texts is finds none =
+          none_pending numbers texts (one_left numbers texts (let e = ap (height_after ir.routines (o.GoIfEqual item)) is ∙ finds in let h : one_more (height_of (record { numbers = numbers; texts = texts })) ≡ height_at ir (suc pc) = cc e in h ∙ none))
       jumps (o.OpenFor counter line) numbers texts is finds none = tt
       jumps (o.OpenRepeat line) numbers texts is finds none = tt
       jumps (o.OpenWhile line) numbers texts is finds none = tt
-      jumps (o.Gosub item line) numbers texts is finds none = none_pending numbers texts (is ∙ none)
+      jumps (o.Gosub line item) numbers texts is finds none = none_pending numbers texts (is ∙ none)
       jumps (o.Next counter line) numbers texts is finds none = none_pending numbers texts (is ∙ none)
       jumps (o.NextAny line) numbers texts is finds none = none_pending numbers texts (is ∙ none)
       jumps (o.Until line) [] texts is finds none = tt
@@ -234,6 +240,8 @@ module _ (ir : Ir) (code entry : ℕ → ℕ) (base : ℕ) (can : CanGenerate ir
       jumps o.WriteText numbers texts is finds none = tt
       jumps (o.Write y) numbers texts is finds none = tt
       jumps (o.WriteMark y) numbers texts is finds none = tt
+      jumps (o.ReadNumber line) numbers texts is finds none = tt
+      jumps (o.Restore item) numbers texts is finds none = tt
       jumps (o.Raise error line) numbers texts is finds none = tt
       jumps o.End numbers texts is finds none = tt
       jumps (o.Enter kind routine line) numbers texts is finds none = tt
@@ -247,10 +255,10 @@ module _ (ir : Ir) (code entry : ℕ → ℕ) (base : ℕ) (can : CanGenerate ir
 
   -- the piece of an operation, and how many words it has
   abbrev pub piece : ℕ → Op → language.Piece
-  piece pc x = op_code (named_at ir pc) x
+  piece pc x = op_code (named_at ir pc x) x
 
   words : (pc : ℕ) (x : Op) → size (piece pc x) ≡ op_size x
-  words pc x = size-named (named_at ir pc) x
+  words pc x = size-named (named_at ir pc x) x
 
   -- what it owed
   abbrev pub Done : ℕ → Op → (Q : Post) → Core → Machine → Type 0
@@ -449,9 +457,9 @@ module _ (ir : Ir) (code entry : ℕ → ℕ) (base : ℕ) (can : CanGenerate ir
       → Follows (suc k) (shown (and_on (flat_from ir k) (performed ir (place_at pc p) x st))) m before
   performs k runs pc x p st s m before there f few =
       onward k runs pc p x (effect ir outermost x p st) st s m before there
-      (sound code entry CodeAsks CodeDoes (piece pc x) (op-formed (named_at ir pc) x) (op-calls code entry placed.meets (named_at ir pc) x)
+      (sound code entry CodeAsks CodeDoes (piece pc x) (op-formed (named_at ir pc x) x) (op-calls code entry placed.meets (named_at ir pc x) x)
       (Arrives (image pc) (effect ir outermost x p st)) (at pc) s m (subst (IsCode (at pc)) (sym (words pc x)) (placed.lies pc x there)) (placed.stands pc x there) f.same f.is
-      (op_owes (image pc) (named_at ir pc) ir (placed.sites pc x there) refl refl placed.literals x p.numbers p.texts st s (fits_at pc x p st s m before there f) f.stands_for f.is.good f.same).by)
+      (op_owes (image pc) (named_at ir pc x) ir (placed.sites pc x there) (text_address ir) refl refl refl placed.literals x refl p.numbers p.texts st s (fits_at pc x p st s m before there f) f.stands_for f.is.good f.same).by)
       f.is f.written
       (effect_facts ir st.left (length ir.names) outermost x p.numbers p.texts st (can.have_code pc x there) (laid.reached pc x there) refl (can.well_formed.there pc x there) (refl, f.names, f.entries)) (pended pc x p st there f.heights) few
 
@@ -474,7 +482,7 @@ module _ (ir : Ir) (code entry : ℕ → ℕ) (base : ℕ) (can : CanGenerate ir
 
   over_end : (k : ℕ) (p : Pending) (st : State) (s : Core) (m : Machine) (before : List ℕ) → Stands (length ir.ops) p st s m before → Follows (suc k) (outcomes.Over st.output st.arena reports.Done) m before
   over_end k p st s m before f =
-      let after = sound code entry CodeAsks CodeDoes last_piece refl tt (Arrives (image (length ir.ops)) (Over reports.Done st)) (at (length ir.ops)) s m placed.last_lies placed.last_stands f.same f.is (end_owes (named_at ir (length ir.ops)) p f.stands_for).by in
+      let after = sound code entry CodeAsks CodeDoes last_piece refl tt (Arrives (image (length ir.ops)) (Over reports.Done st)) (at (length ir.ops)) s m placed.last_lies placed.last_stands f.same f.is (end_owes (named_at ir (length ir.ops) o.End) p f.stands_for).by in
       over_follows ir code entry base can placed (suc k) (at (length ir.ops)) _ _ (Arrives (image (length ir.ops)) (Over reports.Done st)) reports.Done st s m before after f.written after.holds.by
 
   by_op : (k : ℕ) → Runs k → (op : Option Op) (pc : ℕ) (p : Pending) (st : State) (s : Core) (m : Machine) (before : List ℕ) → slice_get ir.ops pc ≡ op → Stands pc p st s m before → 2 * suc k ≤ st.left

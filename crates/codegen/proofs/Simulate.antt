@@ -28,19 +28,23 @@ use Rattle.runtime_lib.specs.Routines.{routines_count}
 use Rattle.codegen.specs.Fitting.{CanGenerate}
 use Rattle.codegen.specs.Operations.{op_code, item_label, raise_label}
 use Rattle.codegen.specs.Outcomes.{Ends, Raises}
-use Rattle.codegen.specs.Program.{op_place, op_size, named_at, branches_start, text_address, raiser, last_piece}
-use Rattle.codegen.specs.StandsFor.{Site, IsSite, HasArena, IsText}
+use Rattle.codegen.specs.Program.{op_place, op_size, named_at, branches_start, number_of_item, text_address, raiser, last_piece}
+use Rattle.codegen.specs.StandsFor.{ItemTable, Site, IsSite, HasArena, IsText}
 use Rattle.codegen.proofs.Arriving.{CodeAsks, CodeDoes}
 use Rattle.codegen.proofs.OutputOps.{bytes-same}
 use Rattle.codegen.proofs.StateLaws.{arena_kept}
 
+-- a program's items of DATA in the image
+abbrev pub table_of : Ir → ItemTable
+table_of ir = record { address = (λ item. text_address ir (number_of_item ir item)); texts = ir.data_items }
+
 -- what an operation at a place finds in the image
 abbrev pub site_at : Ir → (ℕ → ℕ) → ℕ → Site
-site_at ir code pc = record { bytes = code; branches = branches_start ir; items = length ir.starts; next = item_from ir (suc pc) }
+site_at ir code pc = record { bytes = code; branches = branches_start ir; items = length ir.starts; next = item_from ir (suc pc); table = table_of ir }
 
 -- the code of a program is in a memory: each piece at its place, the library, the branches to items, and the texts
 pub record Placed (ir : Ir) (code entry : ℕ → ℕ) (base : ℕ) : Type 0 where
-  pub stands : (pc : ℕ) (x : Op) → slice_get ir.ops pc ≡ Some x → Stands (items (op_code (named_at ir pc) x)) code entry (base + 4 * op_place ir pc)
+  pub stands : (pc : ℕ) (x : Op) → slice_get ir.ops pc ≡ Some x → Stands (items (op_code (named_at ir pc x) x)) code entry (base + 4 * op_place ir pc)
   pub lies : (pc : ℕ) (x : Op) → slice_get ir.ops pc ≡ Some x → IsCode (base + 4 * op_place ir pc) (op_size x)
   pub next : (pc : ℕ) (x : Op) → slice_get ir.ops pc ≡ Some x → op_place ir (suc pc) ≡ op_place ir pc + op_size x
   pub last_stands : Stands (items last_piece) code entry (base + 4 * op_place ir (length ir.ops))

@@ -8,9 +8,9 @@ use Rattle.bv_base.specs.MemoryMap.{arena_start, arena_end}
 use Rattle.bv_num.specs.Bits.{signed}
 use Rattle.arm_core.specs.Core.{word, put_word}
 use Rattle.arm_core.proofs.MemoryWords.{byte-put_other, word-same}
-use Rattle.code_frag.specs.Regions.{residents_start, column_at, opened_count_at, depth_at, cells_start, arrays_start, opened_start, calls_start, stack_start}
-use Rattle.runtime_lib.specs.Opened.{entry_at, opened_count}
-use Rattle.codegen.specs.StandsFor.{HasResidents, HasIntegers, HasArena, IsCell, cell_at, HasLimits, HasEntry, HasEntries, HasOpened, Holds}
+use Rattle.code_frag.specs.Regions.{residents_start, column_at, opened_count_at, depth_at, next_item_at, cells_start, arrays_start, opened_start, calls_start, stack_start}
+use Rattle.runtime_lib.specs.Opened.{entry_at, opened_count, IsApart}
+use Rattle.codegen.specs.StandsFor.{ItemTable, HasResidents, HasIntegers, HasArena, IsCell, cell_at, HasLimits, HasEntry, HasEntries, HasOpened, Holds}
 
 -- the addresses of the state, and some between its parts
 abbrev pub IsHeld : ℕ → Type 0
@@ -83,7 +83,7 @@ pub opened_by : (branches : ℕ) (m k : ℕ → ℕ) (es : List Entry) → HasEn
 opened_by branches m k es has few count same = record { count = count; few = few; entries = entries_kept branches m k es has (λ a low high. same a low (omega (arith, high, few))) }
 
 -- stores above the state
-pub holds_kept : {branches : ℕ} (st : State) (base stack : ℕ) (m k : ℕ → ℕ) (out : List ℕ) → Holds branches st base stack m out → ((a : ℕ) → IsHeld a → k a ≡ m a) → Holds branches st base stack k out
+pub holds_kept : {branches : ℕ} {table : ItemTable} (st : State) (base stack : ℕ) (m k : ℕ → ℕ) (out : List ℕ) → Holds branches table st base stack m out → ((a : ℕ) → IsHeld a → k a ≡ m a) → Holds branches table st base stack k out
 holds_kept {branches} st base stack m k out h same = record {
   base_is = h.base_is;
   stack_is = h.stack_is;
@@ -93,23 +93,44 @@ holds_kept {branches} st base stack m k out h same = record {
   depth = word_kept m k depth_at 0 h.depth (λ b from to. same b (inl (omega (arith, to))));
   column = word_kept m k column_at st.column h.column (λ b from to. same b (inl (omega (arith, to))));
   column_small = h.column_small;
+  few_taken = h.few_taken;
+  next_item = word_kept m k next_item_at _ h.next_item (λ b from to. same b (inl (omega (arith, to))));
   has_arena = arena_kept m k st.arena h.has_arena (λ a low high. same a (inl (omega (arith, high))));
   out_is = h.out_is;
   unhandled = h.unhandled;
 }
 
-pub holds_stored : {branches : ℕ} (st : State) (base stack : ℕ) (m : ℕ → ℕ) (out : List ℕ) (a x : ℕ) → Holds branches st base stack m out → arrays_start ≤ a → a + 4 ≤ opened_start
-    → Holds branches st base stack (put_word m a x) out
+pub holds_stored : {branches : ℕ} {table : ItemTable} (st : State) (base stack : ℕ) (m : ℕ → ℕ) (out : List ℕ) (a x : ℕ) → Holds branches table st base stack m out → arrays_start ≤ a → a + 4 ≤ opened_start
+    → Holds branches table st base stack (put_word m a x) out
 holds_stored st base stack m out a x h high low = holds_kept st base stack m (put_word m a x) out h same
   where
     same : (b : ℕ) → IsHeld b → put_word m a x b ≡ m b
     same b (inl below) = byte-put_other m a x b (inl (omega (arith, below, high)))
     same b (inr above) = let from = above.0 in byte-put_other m a x b (inr (omega (arith, from, low)))
 
+-- ---- another item of DATA is the next one
+pub holds_taken : {branches : ℕ} {table : ItemTable} (st : State) (base stack : ℕ) (m k : ℕ → ℕ) (out : List ℕ) (place : ℕ) → Holds branches table st base stack m out → place ≤ length table.texts → word k next_item_at ≡ table.address place
+    → ((a : ℕ) → IsApart next_item_at 4 a → k a ≡ m a) → Holds branches table (record st { data_place = place }) base stack k out
+holds_taken {branches} st base stack m k out place h few next same = record {
+  base_is = h.base_is;
+  stack_is = h.stack_is;
+  has_residents = residents_kept m k st.stored.residents h.has_residents (λ a low high. same a (inl (omega (arith, high))));
+  has_integers = integers_kept m k st.stored.integers h.has_integers (λ a low high. same a (inr (omega (arith, low))));
+  has_opened = opened_kept branches m k st.stored.opened h.has_opened (λ a low high. same a (inl (omega (arith, high)))) (λ a low high. same a (inr (omega (arith, low))));
+  depth = word_kept m k depth_at 0 h.depth (λ b from to. same b (inl (omega (arith, to))));
+  column = word_kept m k column_at st.column h.column (λ b from to. same b (inl (omega (arith, to))));
+  column_small = h.column_small;
+  few_taken = few;
+  next_item = next;
+  has_arena = arena_kept m k st.arena h.has_arena (λ a low high. same a (inl (omega (arith, high))));
+  out_is = h.out_is;
+  unhandled = h.unhandled;
+}
+
 -- ---- what is written, and the column after it
-pub holds_wrote : {branches : ℕ} (st : State) (base stack base' stack' : ℕ) (m k : ℕ → ℕ) (out out' : List ℕ) (part : Part) → Holds branches st base stack m out → base' ≡ base → stack' ≡ stack
+pub holds_wrote : {branches : ℕ} {table : ItemTable} (st : State) (base stack base' stack' : ℕ) (m k : ℕ → ℕ) (out out' : List ℕ) (part : Part) → Holds branches table st base stack m out → base' ≡ base → stack' ≡ stack
     → out' ≡ out ++ part_bytes part st.column → word k column_at ≡ column_after part st.column → column_after part st.column < 65536
-    → ((a : ℕ) → (a < column_at) ⊎ ((column_at + 4 ≤ a) × (a < stack_start)) → k a ≡ m a) → Holds branches (wrote part st) base' stack' k out'
+    → ((a : ℕ) → (a < column_at) ⊎ ((column_at + 4 ≤ a) × (a < stack_start)) → k a ≡ m a) → Holds branches table (wrote part st) base' stack' k out'
 holds_wrote {branches} st base stack base' stack' m k out out' part h same_base same_stack written column small same = record {
   base_is = same_base ∙ h.base_is;
   stack_is = same_stack ∙ h.stack_is;
@@ -120,6 +141,8 @@ holds_wrote {branches} st base stack base' stack' m k out out' part h same_base 
   depth = word_kept m k depth_at 0 h.depth (λ b from to. same b (inr (omega (arith, from), omega (arith, to))));
   column = column;
   column_small = small;
+  few_taken = h.few_taken;
+  next_item = word_kept m k next_item_at _ h.next_item (λ b from to. same b (inr (omega (arith, from), omega (arith, to))));
   has_arena = arena_kept m k st.arena h.has_arena (λ a low high. same a (inl (omega (arith, high))));
   out_is = written ∙ ap (λ l. l ++ part_bytes part st.column) h.out_is;
   unhandled = h.unhandled;

@@ -1,5 +1,5 @@
 -- The texts of an image are in the memory of its board.
-use Rattle.std.proofs.Common.{◌≡◌, ℕ, zero, suc, ◌+◌, ◌*◌, ◌^◌, ◌<◌, ◌≤◌, List, [], ◌∷◌, ◌++◌, length, take, flat_map, slice_index, slice_index_or, refl, sym, ap, ◌∙◌, arith}
+use Rattle.std.proofs.Common.{◌≡◌, ℕ, zero, suc, ◌+◌, ◌*◌, ◌^◌, ◌<◌, ◌≤◌, List, [], ◌∷◌, ◌++◌, length, take, flat_map, slice_index, slice_index_or, refl, sym, ap, subst, ◌∙◌, arith}
 use Rattle.std.proofs.lemmas.List.{length-append}
 use Rattle.arm_isa.specs.Words.{means, word_of}
 use Rattle.arm_isa.proofs.RoundTrip.{word_of-means}
@@ -81,24 +81,33 @@ bytes_back m (x ∷ xs) ys a h =
 pub front_in : (m : ℕ → ℕ) (xs ys : List ℕ) (a : ℕ) → bytes_from m a (length (xs ++ ys)) ≡ xs ++ ys → bytes_from m a (length xs) ≡ xs
 front_in = bytes_front
 
+-- the byte after others
+pub byte_in : (m : ℕ → ℕ) (xs : List ℕ) (x a : ℕ) → bytes_from m a (length (xs ++ x ∷ [])) ≡ xs ++ x ∷ [] → m (a + length xs) ≡ x
+byte_in m xs x a h = let e : bytes_from m (a + length xs) 1 ≡ x ∷ [] = bytes_back m xs (x ∷ []) a h in cc e
+
+-- a text that is in memory after its length
+pub record HasText (m : ℕ → ℕ) (a : ℕ) (text : List ℕ) : Type 0 where
+  pub count : m a ≡ length text
+  pub is : text_at m a ≡ text
+
 -- a text among texts
 pub text_in : (m : ℕ → ℕ) (front : List ℕ) (texts : List (List ℕ)) (number a : ℕ) → number < length texts → bytes_from m a (length (front ++ flat_map text_bytes texts)) ≡ front ++ flat_map text_bytes texts
-    → text_at m (a + length front + length (flat_map text_bytes (take number texts))) ≡ slice_index_or texts number []
+    → HasText m (a + length front + length (flat_map text_bytes (take number texts))) (slice_index_or texts number [])
 text_in m front texts number a low h = among texts number (a + length front) low (bytes_back m front (flat_map text_bytes texts) a h)
   where
-    whole : (text : List ℕ) (b : ℕ) → bytes_from m b (length (text_bytes text)) ≡ text_bytes text → text_at m b ≡ text
+    whole : (text : List ℕ) (b : ℕ) → bytes_from m b (length (text_bytes text)) ≡ text_bytes text → HasText m b text
     whole text b e =
         let count : m b ≡ length text = cc e in
         let rest : bytes_from m (b + 1) (length text) ≡ text = cc e in
-        ap (bytes_from m (b + 1)) count ∙ rest
+        record { count = count; is = ap (bytes_from m (b + 1)) count ∙ rest }
 
-    among : (texts : List (List ℕ)) (number b : ℕ) → number < length texts → bytes_from m b (length (flat_map text_bytes texts)) ≡ flat_map text_bytes texts → text_at m (b + length (flat_map text_bytes (take number texts))) ≡ slice_index_or texts number []
+    among : (texts : List (List ℕ)) (number b : ℕ) → number < length texts → bytes_from m b (length (flat_map text_bytes texts)) ≡ flat_map text_bytes texts → HasText m (b + length (flat_map text_bytes (take number texts))) (slice_index_or texts number [])
     among [] number b low e = absurd (omega (arith, low))
-    among (text ∷ texts) zero b low e = ap (text_at m) (omega arith) ∙ whole text b (bytes_front m (text_bytes text) (flat_map text_bytes texts) b e)
+    among (text ∷ texts) zero b low e = subst (λ c. HasText m c text) (omega arith) (whole text b (bytes_front m (text_bytes text) (flat_map text_bytes texts) b e))
     among (text ∷ texts) (suc number) b low e =
         let n = length-append (text_bytes text) (flat_map text_bytes (take number texts)) in
-        ap (text_at m) (let q : b + length (text_bytes text ++ flat_map text_bytes (take number texts)) ≡ b + length (text_bytes text) + length (flat_map text_bytes (take number texts)) = omega (arith, n) in q)
-        ∙ among texts number (b + length (text_bytes text)) (omega (arith, low)) (bytes_back m (text_bytes text) (flat_map text_bytes texts) b e)
+        subst (λ c. HasText m c (slice_index_or texts number [])) (let q : b + length (text_bytes text) + length (flat_map text_bytes (take number texts)) ≡ b + length (text_bytes text ++ flat_map text_bytes (take number texts)) = omega (arith, n) in q)
+        (among texts number (b + length (text_bytes text)) (omega (arith, low)) (bytes_back m (text_bytes text) (flat_map text_bytes texts) b e))
 
 -- four bytes a word
 pub length-packed : (bytes : List ℕ) → length bytes ≤ 4 * length (packed bytes)

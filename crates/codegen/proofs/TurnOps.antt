@@ -32,7 +32,7 @@ use Rattle.code_frag.proofs.Rules.{end_here, set_then, test_then, when_then, cal
 use Rattle.runtime_lib.specs.Opened.{opened_count, IsApart, IsVariable, variable_size, nearest, latest, next_number, goes_on, kind_of, step_of, limit_of, code_of, ComesBack, Turned, TurnsBy, TurnsEntry, turning_error}
 use Rattle.codegen.specs.Operations.{Named, op_code, raise_if_failed, turn, variable_address}
 use Rattle.codegen.specs.Outcomes.{Arrives}
-use Rattle.codegen.specs.StandsFor.{Site, IsSite, IsCell, cell_at, cell_word, opening_word, HasLimits, HasEntries, HasOpened, IsNamed, AreEntries, Holds, StandsFor}
+use Rattle.codegen.specs.StandsFor.{ItemTable, Site, IsSite, IsCell, cell_at, cell_word, opening_word, HasLimits, HasEntries, HasOpened, IsNamed, AreEntries, Holds, StandsFor}
 use Rattle.codegen.proofs.Arriving.{CodeAsks, CodeDoes, load_then, over_by, raise_over, raised}
 use Rattle.codegen.proofs.CellLaws.{holds_resident_by, holds_integer_by}
 use Rattle.codegen.proofs.EntryLaws.{wanted, IsCloser, IsFound, SameFound, find_nearest}
@@ -52,10 +52,10 @@ named_cell names (Resident index) limit step fits = fits
 named_cell names (Integer name) limit step fits = fits
 
 -- its number, 0 where it was never made
-number-is : (branches : ℕ) (st : State) (base stack : ℕ) (m : ℕ → ℕ) (out : List ℕ) (cell : Cell) → Holds branches st base stack m out → IsNamed (length st.stored.integers) (For cell (pos 0) (pos 0))
+number-is : (branches : ℕ) (table : ItemTable) (st : State) (base stack : ℕ) (m : ℕ → ℕ) (out : List ℕ) (cell : Cell) → Holds branches table st base stack m out → IsNamed (length st.stored.integers) (For cell (pos 0) (pos 0))
     → signed (word m (cell_word cell)) ≡ or_zero (number_in cell st.stored)
-number-is branches st base stack m out (Resident index) h fits = h.has_residents.each index fits
-number-is branches st base stack m out (Integer name) h fits = by (slice_index_or st.stored.integers name None) (h.has_integers.each name fits)
+number-is branches table st base stack m out (Resident index) h fits = h.has_residents.each index fits
+number-is branches table st base stack m out (Integer name) h fits = by (slice_index_or st.stored.integers name None) (h.has_integers.each name fits)
   where
     by : (value : Option ℤ) → IsCell (word m (cell_at name + 4)) (signed (word m (cell_at name))) value → signed (word m (cell_at name)) ≡ or_zero value
     by None is = is.1
@@ -65,13 +65,13 @@ number-is branches st base stack m out (Integer name) h fits = by (slice_index_o
 abbrev pub turned_state : Cell → ℤ → List Entry → State → State
 turned_state cell v es st = record st { stored = record (with_number cell v st.stored) { opened = es } }
 
-holds_turned : (branches : ℕ) (st : State) (base stack : ℕ) (m k : ℕ → ℕ) (out : List ℕ) (cell : Cell) (v : ℤ) (es : List Entry) → Holds branches st base stack m out → IsNamed (length st.stored.integers) (For cell (pos 0) (pos 0))
+holds_turned : (branches : ℕ) (table : ItemTable) (st : State) (base stack : ℕ) (m k : ℕ → ℕ) (out : List ℕ) (cell : Cell) (v : ℤ) (es : List Entry) → Holds branches table st base stack m out → IsNamed (length st.stored.integers) (For cell (pos 0) (pos 0))
     → signed (word k (cell_word cell)) ≡ v → (cells_start ≤ cell_word cell → word k (cell_word cell + 4) ≡ 1) → HasOpened branches k es
-    → ((a : ℕ) → IsApart opened_count_at 4 a → IsApart (cell_word cell) (variable_size (cell_word cell)) a → k a ≡ m a) → Holds branches (turned_state cell v es st) base stack k out
-holds_turned branches st base stack m k out (Resident index) v es h fits number made opened same =
+    → ((a : ℕ) → IsApart opened_count_at 4 a → IsApart (cell_word cell) (variable_size (cell_word cell)) a → k a ≡ m a) → Holds branches table (turned_state cell v es st) base stack k out
+holds_turned branches table st base stack m k out (Resident index) v es h fits number made opened same =
     let small : variable_size (cell_word (Resident index)) ≡ 4 = ap (λ b. if b then 8 else 4) (lt-leb cells_start (cell_word (Resident index)) (omega (arith, fits))) in
     holds_resident_by st base stack m k out index v es h fits number opened (λ a low count apart. same a count (subst (λ n. IsApart (cell_word (Resident index)) n a) (sym small) apart))
-holds_turned branches st base stack m k out (Integer name) v es h fits number made opened same =
+holds_turned branches table st base stack m k out (Integer name) v es h fits number made opened same =
     let large : variable_size (cell_word (Integer name)) ≡ 8 = ap (λ b. if b then 8 else 4) (le-leb cells_start (cell_word (Integer name)) (omega arith)) in
     holds_integer_by st base stack m k out name v es h fits number (made (omega arith)) opened (λ a low count apart. same a count (subst (λ n. IsApart (cell_word (Integer name)) n a) (sym large) apart))
 
@@ -158,7 +158,7 @@ module _ (image : Site) (st : State) (s t : Core) (site : IsSite image) (line : 
   old = or_zero (number_in cell st.stored)
 
   next_is : next_number s.mem k ≡ in_range (old +ℤ step)
-  next_is = λ i. in_range ((ap (λ a. signed (word s.mem a)) kind ∙ number-is image.branches st (s.regs 11) (s.regs 13) s.mem s.out cell h.holds names) i +ℤ step_is i)
+  next_is = λ i. in_range ((ap (λ a. signed (word s.mem a)) kind ∙ number-is image.branches image.table st (s.regs 11) (s.regs 13) s.mem s.out cell h.holds names) i +ℤ step_is i)
 
   low : cell_word cell + 8 ≤ arrays_start
   low = by (is_variable (length st.stored.integers) cell h.holds.has_integers.few names)
@@ -173,8 +173,8 @@ module _ (image : Site) (st : State) (s t : Core) (site : IsSite image) (line : 
       let apart : (a : ℕ) → arrays_start ≤ a → IsApart (kind_of s.mem k) (variable_size (kind_of s.mem k)) a = λ a high. away a high in
       let pending = pending_after image.bytes nothing back (omega arith) (λ a from to. d.mem a (inr (omega (arith, from))) (apart a from)) h.numbers h.texts in
       record {
-        holds = transport (λ i. Holds image.branches (turned_state cell new es st) (sym (back.kept 11 (omega arith) (omega arith)) i) (sym (back.kept 13 (omega arith) (omega arith)) i) t.mem (sym back.out i))
-            (holds_turned image.branches st (s.regs 11) (s.regs 13) s.mem t.mem s.out cell new es h.holds names ((λ i. signed (word t.mem (sym kind i))) ∙ d.variable)
+        holds = transport (λ i. Holds image.branches image.table (turned_state cell new es st) (sym (back.kept 11 (omega arith) (omega arith)) i) (sym (back.kept 13 (omega arith) (omega arith)) i) t.mem (sym back.out i))
+            (holds_turned image.branches image.table st (s.regs 11) (s.regs 13) s.mem t.mem s.out cell new es h.holds names ((λ i. signed (word t.mem (sym kind i))) ∙ d.variable)
             (λ named. (λ i. word t.mem (sym kind i + 4)) ∙ d.made (let e = kind in omega (arith, named, e)))
             (record { count = count; few = few; entries = entries_kept image.branches s.mem t.mem es entries (λ a from to. d.mem a (inr (omega (arith, from))) (apart a (omega (arith, from)))) })
             (λ a count_apart there. d.mem a count_apart (subst (λ w. IsApart w (variable_size w) a) (sym kind) there)));

@@ -14,14 +14,14 @@ use Rattle.bv_base.specs.MemoryMap.{image_start}
 use Rattle.arm_isa.specs.Words.{means}
 use Rattle.code_frag.specs.declared.item.Item.{Item}
 use Rattle.code_frag.specs.declared.item.Item.TheVariants.{Ins}
-use Rattle.code_frag.specs.Language.{Piece, Skip, ◌⨾◌, items, size}
+use Rattle.code_frag.specs.Language.{Piece, ◌⨾◌, items, size}
 use Rattle.code_frag.specs.Words.{FragState, IsOpen, AllPlaced, is_placed, shifted_item, shifted_place, joined}
 use Rattle.code_frag.proofs.Branches.{length-items}
 use Rattle.code_frag.proofs.JoinLaws.{placed-shifted}
 use Rattle.runtime_lib.specs.Library.{library}
 use Rattle.runtime_lib.specs.Routines.{routines_count}
 use Rattle.codegen.specs.Operations.{Named, main_label, raise_label, item_label, op_code}
-use Rattle.codegen.specs.Program.{data_bytes, packed, data_items, header, prologue, raiser, last_piece, branch_items, named, op_items, op_size, all_op_items, text_address, library_place, branches_place, branches_start, raise_place, main_place, op_place, item_places, program}
+use Rattle.codegen.specs.Program.{data_bytes, packed, data_items, header, prologue, raiser, last_piece, branch_items, named, op_items, op_size, all_op_items, named_text, first_item, library_place, branches_place, branches_start, raise_place, main_place, op_place, item_places, program}
 use Rattle.codegen.specs.Emission.{LeadsInto, with_code}
 use Rattle.codegen.specs.Placing.{with_labels, with_place, with_op, with_ops, front, with_library, with_branches, with_beginning, with_program, AreOpen}
 use Rattle.codegen.proofs.EmitLaws.{get_set_other, length_set}
@@ -51,8 +51,9 @@ pub leads : (ir : Ir) → IsLaidOut ir → (n : ℕ) → n ≡ item_label (marks
 leads ir laid n labels pc (o.Go item) there = let few = starts_marked ir (length ir.starts) laid refl in omega (arith, labels, few, laid.reached pc (o.Go item) there)
 leads ir laid n labels pc (o.GoIfZero item) there = let few = starts_marked ir (length ir.starts) laid refl in omega (arith, labels, few, laid.reached pc (o.GoIfZero item) there)
 leads ir laid n labels pc (o.GoIfOne item) there = let few = starts_marked ir (length ir.starts) laid refl in omega (arith, labels, few, laid.reached pc (o.GoIfOne item) there)
-leads ir laid n labels pc (o.GosubIfOne item line) there = let few = starts_marked ir (length ir.starts) laid refl in omega (arith, labels, few, laid.reached pc (o.GosubIfOne item line) there)
-leads ir laid n labels pc (o.Gosub item line) there = let few = starts_marked ir (length ir.starts) laid refl in omega (arith, labels, few, laid.reached pc (o.Gosub item line) there)
+leads ir laid n labels pc (o.GosubIfOne line item) there = let few = starts_marked ir (length ir.starts) laid refl in omega (arith, labels, few, laid.reached pc (o.GosubIfOne line item) there)
+leads ir laid n labels pc (o.Gosub line item) there = let few = starts_marked ir (length ir.starts) laid refl in omega (arith, labels, few, laid.reached pc (o.Gosub line item) there)
+leads ir laid n labels pc (o.GoIfEqual item) there = let few = starts_marked ir (length ir.starts) laid refl in omega (arith, labels, few, laid.reached pc (o.GoIfEqual item) there)
 leads ir laid n labels pc (o.Push value) there = tt
 leads ir laid n labels pc o.PushColumn there = tt
 leads ir laid n labels pc (o.PushResident index) there = tt
@@ -76,6 +77,8 @@ leads ir laid n labels pc (o.NextAny line) there = tt
 leads ir laid n labels pc (o.Until line) there = tt
 leads ir laid n labels pc (o.EndWhile line) there = tt
 leads ir laid n labels pc (o.Return line) there = tt
+leads ir laid n labels pc (o.ReadNumber line) there = tt
+leads ir laid n labels pc (o.Restore item) there = tt
 leads ir laid n labels pc (o.Raise error line) there = tt
 leads ir laid n labels pc o.End there = tt
 leads ir laid n labels pc (o.Enter kind routine line) there = tt
@@ -100,39 +103,39 @@ length_code n op is = length-append is (items (op_code n op)) ∙ ap (λ k. leng
 abbrev nones : ℕ → List (Option ℕ)
 nones n = replicate n None
 
-with_ops-is : (texts : ℕ → ℕ) (branches : ℕ) (ops : List Op) (xs : List Bool) (item : ℕ) (placed : List (Option ℕ)) (f : FragState) → length placed ≡ item_label item → f.places ≡ placed ++ nones (marks_in xs + 1) → length xs ≡ length ops
+with_ops-is : (texts : Op → ℕ) (branches : ℕ) (ops : List Op) (xs : List Bool) (item : ℕ) (placed : List (Option ℕ)) (f : FragState) → length placed ≡ item_label item → f.places ≡ placed ++ nones (marks_in xs + 1) → length xs ≡ length ops
     → with_ops texts branches ops xs item f ≡ record { items = f.items ++ op_items texts branches ops xs item; places = placed ++ (item_places ops xs (length f.items) ++ None ∷ []) }
 with_ops-is texts branches [] [] item placed f count places laid = λ i. record { items = sym (append-nil f.items) i; places = places i }
 with_ops-is texts branches [] (mark ∷ xs) item placed f count places laid = absurd (omega (arith, laid))
 with_ops-is texts branches (op ∷ ops) [] item placed f count places laid = absurd (omega (arith, laid))
 with_ops-is texts branches (op ∷ ops) (true ∷ xs) item placed f count places laid =
     let here : Option ℕ = Some (length f.items) in
-    let code = op_code (named texts branches (item + 1)) op in
+    let code = op_code (named (texts op) branches (item + 1)) op in
     let first : nones (marks_in (true ∷ xs) + 1) ≡ None ∷ nones (marks_in xs + 1) = ap nones (let e : marks_in (true ∷ xs) + 1 ≡ suc (marks_in xs + 1) = omega arith in e) in
     let label : length (placed ++ here ∷ []) ≡ item_label (item + 1) = omega (arith, length-append placed (here ∷ []), count) in
     let set_there : slice_set f.places (item_label item) here ≡ (placed ++ here ∷ []) ++ nones (marks_in xs + 1) =
     (λ i. slice_set ((places ∙ ap (λ rest. placed ++ rest) first) i) (sym count i) here) ∙ set-append_seam placed None (nones (marks_in xs + 1)) here ∙ sym (append_assoc placed (here ∷ []) (nones (marks_in xs + 1))) in
-    with_ops-is texts branches ops xs (item + 1) (placed ++ here ∷ []) (with_op texts branches op true item f) label set_there (omega (arith, laid))
+    with_ops-is texts branches ops xs (item + 1) (placed ++ here ∷ []) (with_op (texts op) branches op true item f) label set_there (omega (arith, laid))
     ∙ (λ i. record {
       items = append_assoc f.items (items code) (op_items texts branches ops xs (item + 1)) i;
       places = (append_assoc placed (here ∷ []) (item_places ops xs (length (f.items ++ items code)) ++ None ∷ [])
-          ∙ ap (λ n. placed ++ (here ∷ (item_places ops xs n ++ None ∷ []))) (length_code (named texts branches (item + 1)) op f.items)) i;
+          ∙ ap (λ n. placed ++ (here ∷ (item_places ops xs n ++ None ∷ []))) (length_code (named (texts op) branches (item + 1)) op f.items)) i;
     })
 with_ops-is texts branches (op ∷ ops) (false ∷ xs) item placed f count places laid =
-    with_ops-is texts branches ops xs item placed (with_op texts branches op false item f) count places (omega (arith, laid))
+    with_ops-is texts branches ops xs item placed (with_op (texts op) branches op false item f) count places (omega (arith, laid))
     ∙ (λ i. record {
-      items = append_assoc f.items (items (op_code (named texts branches item) op)) (op_items texts branches ops xs item) i;
-      places = placed ++ (item_places ops xs (length_code (named texts branches item) op f.items i) ++ None ∷ []);
+      items = append_assoc f.items (items (op_code (named (texts op) branches item) op)) (op_items texts branches ops xs item) i;
+      places = placed ++ (item_places ops xs (length_code (named (texts op) branches item) op f.items i) ++ None ∷ []);
     })
 
 -- ---- pieces one after another
 
-pub four_pieces : (a b c d : Piece) (f g h k : FragState) → g ≡ with_code a f → h ≡ with_code b g → k ≡ with_code c h → with_code d k ≡ with_code (a ⨾ b ⨾ c ⨾ d ⨾ Skip) f
-four_pieces a b c d f g h k first second third =
-    ap (with_code d) (third ∙ ap (with_code c) (second ∙ ap (with_code b) first))
+pub five_pieces : (a b c d e : Piece) (f g h k l : FragState) → g ≡ with_code a f → h ≡ with_code b g → k ≡ with_code c h → l ≡ with_code d k → with_code e l ≡ with_code (a ⨾ b ⨾ c ⨾ d ⨾ e) f
+five_pieces a b c d e f g h k l first second third fourth =
+    ap (with_code e) (fourth ∙ ap (with_code d) (third ∙ ap (with_code c) (second ∙ ap (with_code b) first)))
     ∙ (λ i. record {
-      items = (append_assoc ((f.items ++ items a) ++ items b) (items c) (items d) ∙ append_assoc (f.items ++ items a) (items b) (items c ++ items d) ∙ append_assoc f.items (items a) (items b ++ (items c ++ items d))
-          ∙ ap (λ rest. f.items ++ (items a ++ (items b ++ (items c ++ rest)))) (sym (append-nil (items d)))) i;
+      items = (append_assoc (((f.items ++ items a) ++ items b) ++ items c) (items d) (items e) ∙ append_assoc ((f.items ++ items a) ++ items b) (items c) (items d ++ items e)
+          ∙ append_assoc (f.items ++ items a) (items b) (items c ++ (items d ++ items e)) ∙ append_assoc f.items (items a) (items b ++ (items c ++ (items d ++ items e)))) i;
       places = f.places;
     })
 
@@ -182,11 +185,11 @@ count_labels ir =
     let first = count_moved (length (front ir).items) in
     ap length (library_labels ir) ∙ length-append (None ∷ moved (length (front ir).items)) (nones (marks_in ir.marks + 2)) ∙ (let e = count_nones (marks_in ir.marks + 2) in omega (arith, first, e))
 
-open_from : (ir : Ir) (k : ℕ) → k < marks_in ir.marks + 2 → IsOpen (with_library ir) (17 + k)
+open_from : (ir : Ir) (k : ℕ) → k < marks_in ir.marks + 2 → IsOpen (with_library ir) (raise_label + k)
 open_from ir k few =
     let first = count_moved (length (front ir).items) in
-    ap (λ ps. slice_get ps (17 + k)) (library_labels ir)
-    ∙ ap (slice_get ((None ∷ moved (length (front ir).items)) ++ nones (marks_in ir.marks + 2))) (let e : 17 + k ≡ length (None ∷ moved (length (front ir).items)) + k = omega (arith, first) in e)
+    ap (λ ps. slice_get ps (raise_label + k)) (library_labels ir)
+    ∙ ap (slice_get ((None ∷ moved (length (front ir).items)) ++ nones (marks_in ir.marks + 2))) (let e : raise_label + k ≡ length (None ∷ moved (length (front ir).items)) + k = omega (arith, first) in e)
     ∙ get_after (None ∷ moved (length (front ir).items)) (nones (marks_in ir.marks + 2)) k ∙ get_none (marks_in ir.marks + 2) k few
 
 pub raise_open : (ir : Ir) → IsOpen (with_library ir) raise_label
@@ -197,30 +200,30 @@ main_open ir = ap (λ ps. slice_get ps main_label) (library_labels ir)
 
 -- ---- the beginning
 
-pub with_beginning-is : (f g h k : FragState) → g ≡ with_place raise_label f → h ≡ with_code raiser g → k ≡ with_place main_label h → with_code prologue k ≡ with_beginning f
+pub with_beginning-is : (first : ℕ) (f g h k : FragState) → g ≡ with_place raise_label f → h ≡ with_code raiser g → k ≡ with_place main_label h → with_code (prologue first) k ≡ with_beginning first f
 unfolding with_beginning
-with_beginning-is f g h k first second third = ap (with_code prologue) (third ∙ ap (with_place main_label) (second ∙ ap (with_code raiser) first))
+with_beginning-is first f g h k raising raiser_is main = ap (with_code (prologue first)) (main ∙ ap (with_place main_label) (raiser_is ∙ ap (with_code raiser) raising))
 
-begun_labels : (f : FragState) → (with_beginning f).places ≡ slice_set (slice_set f.places raise_label (Some (length f.items))) main_label (Some (length (f.items ++ items raiser)))
+begun_labels : (first : ℕ) (f : FragState) → (with_beginning first f).places ≡ slice_set (slice_set f.places raise_label (Some (length f.items))) main_label (Some (length (f.items ++ items raiser)))
 unfolding with_beginning
-begun_labels f = refl
+begun_labels first f = refl
 
-pub begun_count : (f : FragState) → length (with_beginning f).places ≡ length f.places
-begun_count f = ap length (begun_labels f) ∙ length_set (slice_set f.places raise_label (Some (length f.items))) main_label (Some (length (f.items ++ items raiser))) ∙ length_set f.places raise_label (Some (length f.items))
+pub begun_count : (first : ℕ) (f : FragState) → length (with_beginning first f).places ≡ length f.places
+begun_count first f = ap length (begun_labels first f) ∙ length_set (slice_set f.places raise_label (Some (length f.items))) main_label (Some (length (f.items ++ items raiser))) ∙ length_set f.places raise_label (Some (length f.items))
 
 -- the labels of items are open where a fragment has the labels of the library's
-pub items_open : (ir : Ir) (f : FragState) → f.places ≡ (with_library ir).places → AreOpen 0 (with_beginning f)
-items_open ir f same k from within =
-    let count = begun_count f ∙ ap length same ∙ count_labels ir in
-    let before : IsOpen f (17 + (k + 1)) = ap (λ ps. slice_get ps (17 + (k + 1))) same ∙ open_from ir (k + 1) (omega (arith, within, count)) in
-    ap (λ ps. slice_get ps (item_label k)) (begun_labels f)
+pub items_open : (ir : Ir) (first : ℕ) (f : FragState) → f.places ≡ (with_library ir).places → AreOpen 0 (with_beginning first f)
+items_open ir first f same k from within =
+    let count = begun_count first f ∙ ap length same ∙ count_labels ir in
+    let before : IsOpen f (raise_label + (k + 1)) = ap (λ ps. slice_get ps (raise_label + (k + 1))) same ∙ open_from ir (k + 1) (omega (arith, within, count)) in
+    ap (λ ps. slice_get ps (item_label k)) (begun_labels first f)
     ∙ get_set_other (slice_set f.places raise_label (Some (length f.items))) main_label (item_label k) (Some (length (f.items ++ items raiser))) (λ e. omega (arith, e))
     ∙ get_set_other f.places raise_label (item_label k) (Some (length f.items)) (λ e. omega (arith, e))
-    ∙ ap (slice_get f.places) (let e : item_label k ≡ 17 + (k + 1) = omega arith in e) ∙ before
+    ∙ ap (slice_get f.places) (let e : item_label k ≡ raise_label + (k + 1) = omega arith in e) ∙ before
 
 -- ---- the whole
 
-module _ (A B : List Item) (Q : List (Option ℕ)) (m : ℕ) (count : length Q ≡ routines_count) where
+module _ (A B : List Item) (Q : List (Option ℕ)) (m first : ℕ) (count : length Q ≡ routines_count) where
   -- where the raising of errors and the program begin
   abbrev raise_at : Option ℕ
   raise_at = Some (length (A ++ B))
@@ -231,21 +234,21 @@ module _ (A B : List Item) (Q : List (Option ℕ)) (m : ℕ) (count : length Q �
   abbrev before : FragState
   before = the_state (A ++ B) ((None ∷ Q) ++ nones (m + 2))
 
-  begun_places : (with_beginning before).places ≡ (main_at ∷ (Q ++ raise_at ∷ [])) ++ nones (m + 1)
+  begun_places : (with_beginning first before).places ≡ (main_at ∷ (Q ++ raise_at ∷ [])) ++ nones (m + 1)
   unfolding with_beginning
   begun_places =
-      let first : nones (m + 2) ≡ None ∷ nones (m + 1) = ap nones (let e : m + 2 ≡ suc (m + 1) = omega arith in e) in
-      let label : 17 ≡ length (None ∷ Q) = omega (arith, count) in
-      ap (λ ps. slice_set ps main_label main_at) ((λ i. slice_set ((None ∷ Q) ++ first i) (label i) raise_at) ∙ set-append_seam (None ∷ Q) None (nones (m + 1)) raise_at)
+      let next : nones (m + 2) ≡ None ∷ nones (m + 1) = ap nones (let e : m + 2 ≡ suc (m + 1) = omega arith in e) in
+      let label : raise_label ≡ length (None ∷ Q) = omega (arith, count) in
+      ap (λ ps. slice_set ps main_label main_at) ((λ i. slice_set ((None ∷ Q) ++ next i) (label i) raise_at) ∙ set-append_seam (None ∷ Q) None (nones (m + 1)) raise_at)
       ∙ ap (λ ps. main_at ∷ ps) (sym (append_assoc Q (raise_at ∷ []) (nones (m + 1))))
 
-  begun_items : (with_beginning before).items ≡ ((A ++ B) ++ items raiser) ++ items prologue
+  begun_items : (with_beginning first before).items ≡ ((A ++ B) ++ items raiser) ++ items (prologue first)
   unfolding with_beginning
   begun_items = refl
 
-  module _ (texts : ℕ → ℕ) (branches : ℕ) (ops : List Op) (xs : List Bool) (laid : length xs ≡ length ops) (marks : marks_in xs ≡ m) where
+  module _ (texts : Op → ℕ) (branches : ℕ) (ops : List Op) (xs : List Bool) (laid : length xs ≡ length ops) (marks : marks_in xs ≡ m) where
     abbrev start : ℕ
-    start = length (((A ++ B) ++ items raiser) ++ items prologue)
+    start = length (((A ++ B) ++ items raiser) ++ items (prologue first))
 
     abbrev placed : List (Option ℕ)
     placed = main_at ∷ (Q ++ raise_at ∷ [])
@@ -253,18 +256,18 @@ module _ (A B : List Item) (Q : List (Option ℕ)) (m : ℕ) (count : length Q �
     count_placed : length placed ≡ item_label 0
     count_placed = omega (arith, length-append Q (raise_at ∷ []), count)
 
-    ops-are : with_ops texts branches ops xs 0 (with_beginning before)
-        ≡ the_state ((((A ++ B) ++ items raiser) ++ items prologue) ++ op_items texts branches ops xs 0) (placed ++ (item_places ops xs start ++ None ∷ []))
+    ops-are : with_ops texts branches ops xs 0 (with_beginning first before)
+        ≡ the_state ((((A ++ B) ++ items raiser) ++ items (prologue first)) ++ op_items texts branches ops xs 0) (placed ++ (item_places ops xs start ++ None ∷ []))
     ops-are =
-        with_ops-is texts branches ops xs 0 placed (with_beginning before) count_placed (begun_places ∙ (λ i. placed ++ nones (sym marks i + 1))) laid
+        with_ops-is texts branches ops xs 0 placed (with_beginning first before) count_placed (begun_places ∙ (λ i. placed ++ nones (sym marks i + 1))) laid
         ∙ (λ i. the_state (begun_items i ++ op_items texts branches ops xs 0) (placed ++ (item_places ops xs (length (begun_items i)) ++ None ∷ [])))
 
     -- the end after the operations
     abbrev end_at : Option ℕ
-    end_at = Some (length ((((A ++ B) ++ items raiser) ++ items prologue) ++ op_items texts branches ops xs 0))
+    end_at = Some (length ((((A ++ B) ++ items raiser) ++ items (prologue first)) ++ op_items texts branches ops xs 0))
 
-    ended : with_code last_piece (with_place (item_label m) (with_ops texts branches ops xs 0 (with_beginning before)))
-        ≡ the_state (A ++ (B ++ (items raiser ++ (items prologue ++ (op_items texts branches ops xs 0 ++ items last_piece))))) (main_at ∷ (Q ++ (raise_at ∷ (item_places ops xs start ++ end_at ∷ []))))
+    ended : with_code last_piece (with_place (item_label m) (with_ops texts branches ops xs 0 (with_beginning first before)))
+        ≡ the_state (A ++ (B ++ (items raiser ++ (items (prologue first) ++ (op_items texts branches ops xs 0 ++ items last_piece))))) (main_at ∷ (Q ++ (raise_at ∷ (item_places ops xs start ++ end_at ∷ []))))
     ended =
         let front_places = placed ++ item_places ops xs start in
         let label : item_label m ≡ length front_places = omega (arith, length-append placed (item_places ops xs start), count_placed, length-item_places ops xs start laid, marks) in
@@ -272,10 +275,10 @@ module _ (A B : List Item) (Q : List (Option ℕ)) (m : ℕ) (count : length Q �
         (λ i. slice_set (sym (append_assoc placed (item_places ops xs start) (None ∷ [])) i) (label i) end_at) ∙ set-append_seam front_places None [] end_at ∙ append_assoc placed (item_places ops xs start) (end_at ∷ []) in
         ap (λ f. with_code last_piece (with_place (item_label m) f)) ops-are
         ∙ (λ i. the_state
-        ((append_assoc (((A ++ B) ++ items raiser) ++ items prologue) (op_items texts branches ops xs 0) (items last_piece)
-        ∙ append_assoc ((A ++ B) ++ items raiser) (items prologue) (op_items texts branches ops xs 0 ++ items last_piece)
-        ∙ append_assoc (A ++ B) (items raiser) (items prologue ++ (op_items texts branches ops xs 0 ++ items last_piece))
-        ∙ append_assoc A B (items raiser ++ (items prologue ++ (op_items texts branches ops xs 0 ++ items last_piece)))) i)
+        ((append_assoc (((A ++ B) ++ items raiser) ++ items (prologue first)) (op_items texts branches ops xs 0) (items last_piece)
+        ∙ append_assoc ((A ++ B) ++ items raiser) (items (prologue first)) (op_items texts branches ops xs 0 ++ items last_piece)
+        ∙ append_assoc (A ++ B) (items raiser) (items (prologue first) ++ (op_items texts branches ops xs 0 ++ items last_piece))
+        ∙ append_assoc A B (items raiser ++ (items (prologue first) ++ (op_items texts branches ops xs 0 ++ items last_piece)))) i)
         ((there ∙ ap (λ ps. main_at ∷ ps) (append_assoc Q (raise_at ∷ []) (item_places ops xs start ++ end_at ∷ []))) i))
 
 -- the library's items where its labels come after that of the beginning
@@ -320,32 +323,32 @@ raise_is ir =
 main_is : (ir : Ir) → length (first_items ir ++ items raiser) ≡ main_place ir
 main_is ir = omega (arith, length-append (first_items ir) (items raiser), raise_is ir, length-items raiser)
 
-start_is : (ir : Ir) → length ((first_items ir ++ items raiser) ++ items prologue) ≡ op_place ir 0
+start_is : (ir : Ir) → length ((first_items ir ++ items raiser) ++ items (prologue (first_item ir))) ≡ op_place ir 0
 start_is ir =
-    let size_is = length-append (first_items ir ++ items raiser) (items prologue) ∙ (λ i. main_is ir i + length-items prologue i) in
-    size_is ∙ (let e : main_place ir + size prologue ≡ op_place ir 0 = omega arith in e)
+    let size_is = length-append (first_items ir ++ items raiser) (items (prologue (first_item ir))) ∙ (λ i. main_is ir i + length-items (prologue (first_item ir)) i) in
+    size_is ∙ (let e : main_place ir + size (prologue (first_item ir)) ≡ op_place ir 0 = omega arith in e)
 
-end_is : (ir : Ir) → length ir.marks ≡ length ir.ops → length (((first_items ir ++ items raiser) ++ items prologue) ++ all_op_items ir) ≡ op_place ir (length ir.ops)
+end_is : (ir : Ir) → length ir.marks ≡ length ir.ops → length (((first_items ir ++ items raiser) ++ items (prologue (first_item ir))) ++ all_op_items ir) ≡ op_place ir (length ir.ops)
 end_is ir laid =
-    let all = length-op_items (text_address ir) (branches_start ir) ir.ops ir.marks 0 laid ∙ sym (whole-size ir.ops) in
-    length-append ((first_items ir ++ items raiser) ++ items prologue) (all_op_items ir)
-    ∙ (λ i. (length-append (first_items ir ++ items raiser) (items prologue) ∙ (λ j. main_is ir j + length-items prologue j)) i + all i)
+    let all = length-op_items (named_text ir) (branches_start ir) ir.ops ir.marks 0 laid ∙ sym (whole-size ir.ops) in
+    length-append ((first_items ir ++ items raiser) ++ items (prologue (first_item ir))) (all_op_items ir)
+    ∙ (λ i. (length-append (first_items ir ++ items raiser) (items (prologue (first_item ir))) ∙ (λ j. main_is ir j + length-items (prologue (first_item ir)) j)) i + all i)
 
-pub program-is : (ir : Ir) → length ir.marks ≡ length ir.ops → with_program ir (with_beginning (with_branches (marks_in ir.marks) (with_library ir))) ≡ program ir
+pub program-is : (ir : Ir) → length ir.marks ≡ length ir.ops → with_program ir (with_beginning (first_item ir) (with_branches (marks_in ir.marks) (with_library ir))) ≡ program ir
 unfolding with_program program
 program-is ir laid =
-    let last = items raiser ++ (items prologue ++ (all_op_items ir ++ items last_piece)) in
-    ap (λ f. with_code last_piece (with_place (item_label (marks_in ir.marks)) (with_ops (text_address ir) (branches_start ir) ir.ops ir.marks 0 (with_beginning f)))) (with_branches-parts ir)
-    ∙ ended (front_items ir) (moved_items ++ branches_of ir) (moved (length (front_items ir))) (marks_in ir.marks) (count_moved (length (front_items ir))) (text_address ir) (branches_start ir) ir.ops ir.marks laid refl
+    let last = items raiser ++ (items (prologue (first_item ir)) ++ (all_op_items ir ++ items last_piece)) in
+    ap (λ f. with_code last_piece (with_place (item_label (marks_in ir.marks)) (with_ops (named_text ir) (branches_start ir) ir.ops ir.marks 0 (with_beginning (first_item ir) f)))) (with_branches-parts ir)
+    ∙ ended (front_items ir) (moved_items ++ branches_of ir) (moved (length (front_items ir))) (marks_in ir.marks) (first_item ir) (count_moved (length (front_items ir))) (named_text ir) (branches_start ir) ir.ops ir.marks laid refl
     ∙ (λ i. the_state
     ((append_assoc header (data_items (packed (data_bytes ir))) ((moved_items ++ branches_of ir) ++ last) ∙ ap (λ rest. header ++ (data_items (packed (data_bytes ir)) ++ rest)) (append_assoc moved_items (branches_of ir) last)) i)
     (Some (main_is ir i) ∷ (moved (library_at ir i) ++ (Some (raise_is ir i) ∷ (item_places ir.ops ir.marks (start_is ir i) ++ Some (end_is ir laid i) ∷ [])))))
 
-pub with_program-is : (ir : Ir) (branches item label : ℕ) (f g h : FragState) → branches ≡ branches_start ir → g ≡ with_ops (text_address ir) branches ir.ops ir.marks 0 f → item ≡ marks_in ir.marks → label ≡ item_label item → h ≡ with_place label g
+pub with_program-is : (ir : Ir) (branches item label : ℕ) (f g h : FragState) → branches ≡ branches_start ir → g ≡ with_ops (named_text ir) branches ir.ops ir.marks 0 f → item ≡ marks_in ir.marks → label ≡ item_label item → h ≡ with_place label g
     → with_code last_piece h ≡ with_program ir f
 unfolding with_program
 with_program-is ir branches item label f g h address ops item_is label_is placed_is =
-    ap (with_code last_piece) (placed_is ∙ (λ i. with_place ((label_is ∙ ap item_label item_is) i) ((ops ∙ ap (λ a. with_ops (text_address ir) a ir.ops ir.marks 0 f) address) i)))
+    ap (with_code last_piece) (placed_is ∙ (λ i. with_place ((label_is ∙ ap item_label item_is) i) ((ops ∙ ap (λ a. with_ops (named_text ir) a ir.ops ir.marks 0 f) address) i)))
 
 -- ---- each label has its place
 

@@ -15,15 +15,16 @@ abbrev pub LeadsInto : ℕ → Op → Type 0
 LeadsInto n (o.Go item) = item_label item < n
 LeadsInto n (o.GoIfZero item) = item_label item < n
 LeadsInto n (o.GoIfOne item) = item_label item < n
-LeadsInto n (o.GosubIfOne item line) = item_label item < n
-LeadsInto n (o.Gosub item line) = item_label item < n
+LeadsInto n (o.GosubIfOne line item) = item_label item < n
+LeadsInto n (o.GoIfEqual item) = item_label item < n
+LeadsInto n (o.Gosub line item) = item_label item < n
 LeadsInto n _ = Unit {0}
 
--- the code of an operation where the string that it pushes has an address, and the branch to the next item another
+-- the code of an operation where the text or item of DATA that it names has an address, and the branch to the next item another
 abbrev pub code_with : ℕ → ℕ → Op → Piece
-code_with text back op = op_code (record { text = (λ number. text); back = back }) op
+code_with text back op = op_code (record { text = text; back = back }) op
 
--- the code of one that pushes no string and opens nothing
+-- the code of one that names neither and opens nothing
 abbrev pub code_of : Op → Piece
 code_of op = code_with 0 0 op
 

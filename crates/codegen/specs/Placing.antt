@@ -1,16 +1,15 @@
 -- The fragment of a program step by step, as it is put together: its labels exist before operations name them, and get their
 -- places later. This project's own.
-use Rattle.std.specs.Prelude.{ℕ, ◌+◌, ◌-◌, min, ◌<◌, ◌≤◌, Bool, true, false, List, [], ◌∷◌, ◌++◌, length, replicate, slice_index, slice_set, Some, None}
+use Rattle.std.specs.Prelude.{ℕ, ◌+◌, ◌<◌, ◌≤◌, Bool, true, false, List, [], ◌∷◌, ◌++◌, length, replicate, slice_set, Some, None}
 use Rattle.bas_ir.specs.declared.ir.Ir.{Ir}
 use Rattle.bas_ir.specs.declared.op.Op.{Op}
-use Rattle.bas_ir.specs.declared.op.Op.TheVariants as o
 use Rattle.bas_ir.specs.Places.{marks_in}
 use Rattle.code_frag.specs.Regions.{error_texts_start}
 use Rattle.code_frag.specs.Words.{FragState, IsOpen, joined}
 use Rattle.runtime_lib.specs.Entries.{error_table}
 use Rattle.runtime_lib.specs.Library.{library}
 use Rattle.codegen.specs.Operations.{main_label, raise_label, item_label, op_code}
-use Rattle.codegen.specs.Program.{text_bytes, data_bytes, packed, data_items, header, prologue, raiser, last_piece, branch_items, item_after, named, text_address, branches_start}
+use Rattle.codegen.specs.Program.{text_bytes, data_bytes, packed, data_items, header, prologue, raiser, last_piece, branch_items, item_after, all_texts, named, named_text, branches_start}
 use Rattle.codegen.specs.Emission.{with_code}
 
 -- ---- addresses of texts
@@ -24,18 +23,9 @@ addresses_from at (text ∷ texts) = at ∷ addresses_from (at + length (text_by
 abbrev pub texts_start : ℕ
 texts_start = error_texts_start + length error_table
 
--- the addresses of a program's texts, and that after them
+-- the addresses of a program's texts and items of DATA, and that after them
 unfoldable pub addresses : Ir → List ℕ
-addresses ir = addresses_from texts_start ir.texts
-
--- the address of a text in such a table
-abbrev pub address_in : List ℕ → ℕ → ℕ
-address_in table number = slice_index table (min number (length table - 1))
-
--- the number of the text that an operation pushes, if it pushes one
-abbrev pub text_of : Op → ℕ
-text_of (o.PushText text) = text
-text_of _ = 0
+addresses ir = addresses_from texts_start (all_texts ir)
 
 -- ---- labels
 
@@ -54,15 +44,15 @@ with_place_if false item f = f
 
 -- ---- operations
 
--- a fragment with an operation's code at its end, which may name the branch to the next item
-abbrev pub with_op : (ℕ → ℕ) → ℕ → Op → Bool → ℕ → FragState → FragState
-with_op texts branches op marked item f = with_code (op_code (named texts branches (item_after marked item)) op) (with_place_if marked item f)
+-- a fragment with an operation's code at its end, which may name a text at an address and the branch to the next item
+abbrev pub with_op : (text branches : ℕ) → Op → Bool → ℕ → FragState → FragState
+with_op text branches op marked item f = with_code (op_code (named text branches (item_after marked item)) op) (with_place_if marked item f)
 
--- a fragment with the code of operations and their marks, where an item is the next one
-abbrev pub with_ops : (ℕ → ℕ) → ℕ → List Op → List Bool → ℕ → FragState → FragState
+-- a fragment with the code of operations and their marks, by the addresses of what they name, where an item is the next one
+abbrev pub with_ops : (Op → ℕ) → ℕ → List Op → List Bool → ℕ → FragState → FragState
 with_ops texts branches [] marks item f = f
 with_ops texts branches (op ∷ ops) [] item f = f
-with_ops texts branches (op ∷ ops) (marked ∷ marks) item f = with_ops texts branches ops marks (item_after marked item) (with_op texts branches op marked item f)
+with_ops texts branches (op ∷ ops) (marked ∷ marks) item f = with_ops texts branches ops marks (item_after marked item) (with_op (texts op) branches op marked item f)
 
 -- ---- the whole
 
@@ -78,13 +68,13 @@ with_library ir = with_labels (marks_in ir.marks + 2) (joined (front ir) library
 abbrev pub with_branches : ℕ → FragState → FragState
 with_branches n f = record { items = f.items ++ branch_items (n + 1) 0; places = f.places }
 
--- the raising of errors, and the beginning of the program
-unfoldable pub with_beginning : FragState → FragState
-with_beginning f = with_code prologue (with_place main_label (with_code raiser (with_place raise_label f)))
+-- the raising of errors, and the beginning of the program, by the address of the first item of DATA
+unfoldable pub with_beginning : ℕ → FragState → FragState
+with_beginning first f = with_code (prologue first) (with_place main_label (with_code raiser (with_place raise_label f)))
 
 -- the operations, and the end after them
 unfoldable pub with_program : Ir → FragState → FragState
-with_program ir f = with_code last_piece (with_place (item_label (marks_in ir.marks)) (with_ops (text_address ir) (branches_start ir) ir.ops ir.marks 0 f))
+with_program ir f = with_code last_piece (with_place (item_label (marks_in ir.marks)) (with_ops (named_text ir) (branches_start ir) ir.ops ir.marks 0 f))
 
 -- ---- what a label needs
 

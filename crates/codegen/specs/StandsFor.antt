@@ -1,5 +1,5 @@
 -- How a core stands for a state of the flat machine: each region of its memory for a part of the state. This project's own.
-use Rattle.std.specs.Prelude.{◌≡◌, ℕ, ◌+◌, ◌*◌, ◌%◌, ◌<◌, ◌≤◌, ℤ, pos, List, [], ◌∷◌, Option, None, Some, length, slice_index, slice_index_or}
+use Rattle.std.specs.Prelude.{◌≡◌, ℕ, suc, ◌+◌, ◌*◌, ◌%◌, ◌<◌, ◌≤◌, ℤ, pos, List, [], ◌∷◌, Option, None, Some, length, slice_index, slice_index_or}
 use Rattle.bas_ir.specs.Places.{Pending}
 use Rattle.bas_sem.specs.State.{State}
 use Rattle.bas_store.specs.Cells.{Cell, Resident, Integer, residents}
@@ -9,7 +9,8 @@ use Rattle.bv_base.specs.MemoryMap.{image_start, arena_start, arena_bytes}
 use Rattle.bv_num.specs.Bits.{signed}
 use Rattle.arm_core.specs.Core.{Core, word}
 use Rattle.code_frag.specs.Places.{data_start}
-use Rattle.code_frag.specs.Regions.{residents_start, column_at, depth_at, cells_start, numbers_end, texts_end, stack_end}
+use Rattle.code_frag.specs.Regions.{residents_start, column_at, depth_at, next_item_at, cells_start, numbers_end, texts_end, stack_end}
+use Rattle.runtime_lib.specs.Data.{end_mark}
 use Rattle.runtime_lib.specs.Entries.{text_at}
 use Rattle.runtime_lib.specs.Opened.{most_entries, depth_of, kind_of, limit_of, step_of, code_of, repeat_kind, while_kind, gosub_kind, opened_count}
 
@@ -39,15 +40,41 @@ pub record HasArena (m : ℕ → ℕ) (bytes : List ℕ) : Type 0 where
   pub count : length bytes ≡ arena_bytes
   pub each : (k : ℕ) → k < arena_bytes → m (arena_start + k) ≡ slice_index bytes k
 
--- ---- open loops and GOSUBs
+-- ---- the image
+
+-- a text stands in the image, which is never stored into, at an address
+pub record IsText (code : ℕ → ℕ) (a : ℕ) (text : List ℕ) : Type 0 where
+  pub low : image_start ≤ a
+  pub high : a + 256 ≤ data_start
+  pub is : text_at code a ≡ text
+
+-- the items of DATA in the image: the address of each and that after them all, and their texts
+pub record ItemTable : Type 0 where
+  pub address : ℕ → ℕ
+  pub texts : List (List ℕ)
+
+-- an item stands at its address, and after it the next one, or the byte after them all
+pub record IsItemAt (code : ℕ → ℕ) (table : ItemTable) (k : ℕ) : Type 0 where
+  pub is : text_at code (table.address k) ≡ slice_index_or table.texts k []
+  pub count : code (table.address k) ≡ length (slice_index_or table.texts k [])
+  pub short : length (slice_index_or table.texts k []) < end_mark
+  pub next : table.address (suc k) ≡ table.address k + 1 + length (slice_index_or table.texts k [])
+
+-- all of them stand in the image, and after them a byte that is no item's length
+pub record HasItems (code : ℕ → ℕ) (table : ItemTable) : Type 0 where
+  pub low : (k : ℕ) → k ≤ length table.texts → image_start ≤ table.address k
+  pub high : (k : ℕ) → k ≤ length table.texts → table.address k + 256 ≤ data_start
+  pub each : (k : ℕ) → k < length table.texts → IsItemAt code table k
+  pub ends : code (table.address (length table.texts)) ≡ end_mark
 
 -- what an operation's code finds in the image: the image's bytes, and where the branches to items are; their number, and the item after
--- the operation
+-- the operation; and the items of DATA
 pub record Site : Type 0 where
   pub bytes : ℕ → ℕ
   pub branches : ℕ
   pub items : ℕ
   pub next : ℕ
+  pub table : ItemTable
 
 -- branches are words of the image, one an item and one for the end, and the next item is one of them, and not the first
 pub record IsSite (site : Site) : Type 0 where
@@ -56,6 +83,9 @@ pub record IsSite (site : Site) : Type 0 where
   pub high : site.branches + 4 * (site.items + 1) ≤ data_start
   pub after : 1 ≤ site.next
   pub within : site.next ≤ site.items
+  pub has_items : HasItems site.bytes site.table
+
+-- ---- open loops and GOSUBs
 
 -- the address of a cell's number
 abbrev pub cell_word : Cell → ℕ
@@ -111,7 +141,7 @@ AreEntries names items (e ∷ es) = IsEntry names items e × AreEntries names it
 -- ---- the whole
 
 -- What a memory, the residents' address, the stack's and the output stand for, beside what is pending.
-pub record Holds (branches : ℕ) (st : State) (base stack : ℕ) (m : ℕ → ℕ) (out : List ℕ) : Type 0 where
+pub record Holds (branches : ℕ) (table : ItemTable) (st : State) (base stack : ℕ) (m : ℕ → ℕ) (out : List ℕ) : Type 0 where
   pub base_is : base ≡ residents_start
   pub stack_is : stack ≡ stack_end
   pub has_residents : HasResidents m st.stored.residents
@@ -120,6 +150,8 @@ pub record Holds (branches : ℕ) (st : State) (base stack : ℕ) (m : ℕ → �
   pub depth : word m depth_at ≡ 0
   pub column : word m column_at ≡ st.column
   pub column_small : st.column < 65536
+  pub few_taken : st.data_place ≤ length table.texts
+  pub next_item : word m next_item_at ≡ table.address st.data_place
   pub has_arena : HasArena m st.arena
   pub out_is : out ≡ st.output
   pub unhandled : st.handler ≡ None
@@ -131,12 +163,6 @@ abbrev pub Numbers : (ℕ → ℕ) → (p r : ℕ) → List ℤ → Type 0
 Numbers m p r [] = p ≡ numbers_end
 Numbers m p r (value ∷ values) = (signed r ≡ value) × Numbers m (p + 4) (word m p) values
 
--- a text stands in the image, which is never stored into, at an address
-pub record IsText (code : ℕ → ℕ) (a : ℕ) (text : List ℕ) : Type 0 where
-  pub low : image_start ≤ a
-  pub high : a + 256 ≤ data_start
-  pub is : text_at code a ≡ text
-
 -- the address r and those from p on are of the pending strings
 abbrev pub Texts : (code m : ℕ → ℕ) → (p r : ℕ) → List (List ℕ) → Type 0
 Texts code m p r [] = p ≡ texts_end
@@ -144,6 +170,6 @@ Texts code m p r (text ∷ texts) = IsText code r text × Texts code m (p + 4) (
 
 -- A core stands for what is pending and a state.
 pub record StandsFor (site : Site) (p : Pending) (st : State) (s : Core) : Type 0 where
-  pub holds : Holds site.branches st (s.regs 11) (s.regs 13) s.mem s.out
+  pub holds : Holds site.branches site.table st (s.regs 11) (s.regs 13) s.mem s.out
   pub numbers : Numbers s.mem (s.regs 12) (s.regs 0) p.numbers
   pub texts : Texts site.bytes s.mem (s.regs 9) (s.regs 10) p.texts

@@ -47,11 +47,17 @@ pub const CLOSING_WORD: Label = Label { number: 15 };
 /// NEXT.
 pub const TURNING: Label = Label { number: 16 };
 
+/// The next item of DATA.
+pub const NEXT_ITEM: Label = Label { number: 17 };
+
+/// The number of an item of DATA.
+pub const ITEM_NUMBER: Label = Label { number: 18 };
+
 /// Where an error is raised, with its number in R0 and its line in R1.
-pub const RAISE: Label = Label { number: 17 };
+pub const RAISE: Label = Label { number: 19 };
 
 /// The first item.
-const FIRST_ITEM: u32 = 18;
+const FIRST_ITEM: u32 = 20;
 
 /// The label of an item.
 pub fn item_label(item: u32) -> Label

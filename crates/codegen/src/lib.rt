@@ -1,6 +1,7 @@
 //! Machine code for the flat code: a piece of code for each operation, and the image of a program.
 #![tactic(auto)]
 
+mod data;
 mod generate;
 mod image_texts;
 mod instructions;

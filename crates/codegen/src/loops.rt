@@ -75,7 +75,7 @@ pub fn emit_gosub(frag: &mut Frag, item: u32, back: u32, line: u16) -> Result<()
     requires raise { raise_label < length frag.old.places }
     requires label { item_label item < length frag.old.places }
     requires few { length frag.old.places ≤ 2 ^ 32 }
-    ensures { OnOk result (frag.new ≡ with_code (code_with 0 back (o.Gosub item line)) frag.old) }
+    ensures { OnOk result (frag.new ≡ with_code (code_with 0 back (o.Gosub line item)) frag.old) }
 {
     emit_open(frag, GOSUB, back, line)?;
     frag.branch(AL, false, item_label(item))
@@ -181,7 +181,7 @@ pub fn emit_gosub_if_one(frag: &mut Frag, item: u32, back: u32, line: u16) -> Re
     requires raise { raise_label < length frag.old.places }
     requires label { item_label item < length frag.old.places }
     requires few { length frag.old.places ≤ 2 ^ 32 }
-    ensures { OnOk result (frag.new ≡ with_code (code_with 0 back (o.GosubIfOne item line)) frag.old) }
+    ensures { OnOk result (frag.new ≡ with_code (code_with 0 back (o.GosubIfOne line item)) frag.old) }
 {
     frag.emit_all(&[cmp!(0, num 1), over!(NE, 14), pull!(0, NUMBERS)])?;
     emit_gosub(frag, item, back, line)?;

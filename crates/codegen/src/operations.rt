@@ -6,6 +6,7 @@ ghost use Rattle.codegen.specs.Emission.{with_code, LeadsInto, code_of, code_wit
 ghost use Rattle.codegen.specs.Program.{last_piece};
 ghost use Rattle.codegen.specs.Operations.{raise_label, library_label, item_label, number_routine, drop};
 
+use crate::data::{emit_read_number, emit_restore};
 use crate::instructions::{
     cmp, data, emit_process, emit_transfer, ldr, mov, over, pull, push, single, store, swi,
 };
@@ -222,6 +223,22 @@ fn emit_go_if_zero(frag: &mut Frag, item: u32) -> Result<(), NoMemory>
     frag.branch(EQ, false, item_label(item))
 }
 
+/// Adds a jump to an item where the topmost number is the one below it, which is left if it isn't. The only error is want of memory.
+fn emit_go_if_equal(frag: &mut Frag, item: u32) -> Result<(), NoMemory>
+    requires label { item_label item < length frag.old.places }
+    requires few { length frag.old.places ≤ 2 ^ 32 }
+    ensures { OnOk result (frag.new ≡ with_code (code_of (o.GoIfEqual item)) frag.old) }
+{
+    frag.emit_all(&[
+        pull!(1, NUMBERS),
+        cmp!(1, reg 0),
+        mov!(0, reg 1),
+        over!(NE, 2),
+        pull!(0, NUMBERS),
+    ])?;
+    frag.branch(AL, false, item_label(item))
+}
+
 /// The items of the end of a run.
 static END: [Item; 2] = [mov!(0, num 0), swi!(SWI_END)];
 
@@ -232,8 +249,8 @@ pub fn emit_end(frag: &mut Frag) -> Result<(), NoMemory>
     frag.emit_all(&END)
 }
 
-/// Adds the code of an operation. The addresses are those of the string that it pushes, if it pushes one, and of the branch to the
-/// item that an entry goes on at, if it opens one. An operation whose form has no code yet ends the run. The only error is want of
+/// Adds the code of an operation. The addresses are those of the text or item of DATA that it names, if it names one, and of the
+/// branch to the item that an entry goes on at, if it opens one. An operation whose form has no code yet ends the run. The only error is want of
 /// memory.
 pub fn emit_op(frag: &mut Frag, op: Op, text_address: u32, back: u32) -> Result<(), NoMemory>
     requires raise { raise_label < length frag.old.places }
@@ -259,17 +276,20 @@ pub fn emit_op(frag: &mut Frag, op: Op, text_address: u32, back: u32) -> Result<
         Op::GoIfZero(item) => emit_go_if_zero(frag, item),
         Op::Discard => frag.emit_all(&[pull!(0, NUMBERS)]),
         Op::GoIfOne(item) => emit_go_if_one(frag, item),
-        Op::GosubIfOne { item, line } => emit_gosub_if_one(frag, item, back, line),
+        Op::GosubIfOne { line, item } => emit_gosub_if_one(frag, item, back, line),
         Op::RaiseIfOne { error, line } => emit_raise_if_one(frag, error, line),
+        Op::GoIfEqual(item) => emit_go_if_equal(frag, item),
         Op::OpenFor { counter, line } => emit_open_for(frag, counter, back, line),
         Op::OpenRepeat { line } => emit_open(frag, REPEAT, back, line),
         Op::OpenWhile { line } => emit_open(frag, WHILE, back, line),
-        Op::Gosub { item, line } => emit_gosub(frag, item, back, line),
+        Op::Gosub { line, item } => emit_gosub(frag, item, back, line),
         Op::Next { counter, line } => emit_next(frag, counter, line),
         Op::NextAny { line } => emit_next_any(frag, line),
         Op::Until { line } => emit_until(frag, line),
         Op::EndWhile { line } => emit_end_while(frag, line),
         Op::Return { line } => emit_return(frag, line),
+        Op::ReadNumber { line } => emit_read_number(frag, line),
+        Op::Restore(_) => emit_restore(frag, text_address),
         Op::Raise { error, line } => emit_raise(frag, error, line),
         Op::End
         | Op::Enter { .. }

@@ -6,7 +6,7 @@ ghost use Rattle.bv_base.specs.MemoryMap.{image_start};
 ghost use Rattle.code_frag.specs.Words.{IsOpen};
 ghost use Rattle.codegen.specs.Emission.{LeadsInto};
 ghost use Rattle.codegen.specs.Operations.{raise_label, item_label};
-ghost use Rattle.codegen.specs.Program.{item_after, text_address};
+ghost use Rattle.codegen.specs.Program.{item_after, named_text};
 ghost use Rattle.codegen.specs.Placing.{with_place_if, with_labels, with_branches, with_op, with_ops, AreOpen, addresses};
 
 use crate::image_texts::address_of;
@@ -104,7 +104,7 @@ fn branch_address(branches: u32, item: u32) -> Result<u32, NoMemory>
 }
 
 /// Adds the code of an operation, with the label of its item if it is the first of it, and answers the item that begins next. The
-/// addresses are those of the text that it pushes and of the branches to items. The only error is want of memory.
+/// addresses are those of the text or item of DATA that it names and of the branches to items. The only error is want of memory.
 fn emit_marked(
     frag: &mut Frag,
     op: Op,
@@ -118,7 +118,7 @@ fn emit_marked(
     requires few { length frag.old.places ≤ 2 ^ 32 }
     requires label { item_label item < length frag.old.places }
     requires open { IsOpen frag.old (item_label item) }
-    ensures code { OnOk result (frag.new ≡ with_op (λ number. text_address) branches op marked item frag.old) }
+    ensures code { OnOk result (frag.new ≡ with_op text_address branches op marked item frag.old) }
     ensures next { IfOk result (λ next. next ≡ item_after marked item) }
     ensures labels { OnOk result (length frag.new.places ≡ length frag.old.places) }
 {
@@ -136,7 +136,7 @@ pub fn emit_ops(frag: &mut Frag, ir: &Ir, table: &[u32], branches: u32) -> Resul
     requires labels { length frag.old.places ≡ item_label (marks_in ir.now.marks) + 1 }
     requires few { length frag.old.places ≤ 2 ^ 32 }
     requires addresses { table.now ≡ addresses ir.now }
-    ensures code { OnOk result (frag.new ≡ with_ops (text_address ir.now) branches ir.now.ops ir.now.marks 0 frag.old) }
+    ensures code { OnOk result (frag.new ≡ with_ops (named_text ir.now) branches ir.now.ops ir.now.marks 0 frag.old) }
     ensures items { IfOk result (λ items. items ≡ marks_in ir.now.marks) }
     ensures open { OnOk result (IsOpen frag.new (item_label (marks_in ir.now.marks))) }
 {
@@ -144,7 +144,7 @@ pub fn emit_ops(frag: &mut Frag, ir: &Ir, table: &[u32], branches: u32) -> Resul
     let marks = ir.marks.as_slice();
     let mut item = 0;
     for pc in 0..ops.len() {
-        let text_address = address_of(ops[pc], table);
+        let text_address = address_of(ir, ops[pc], table);
         item = emit_marked(frag, ops[pc], marks[pc], item, text_address, branches)?;
     }
     Ok(item)

@@ -9,7 +9,8 @@ ghost use Rattle.codegen.specs.Operations.{main_label, raise_label, item_label};
 ghost use Rattle.codegen.specs.Placing.{front, with_library, with_beginning, with_program, AreOpen, addresses};
 ghost use Rattle.codegen.specs.Program.{header, prologue, program, data_bytes, branches_start};
 
-use crate::image_texts::{data_bytes, emit_bytes, text_addresses};
+use crate::data::emit_restore;
+use crate::image_texts::{data_bytes, emit_bytes, first_item, text_addresses};
 use crate::instructions::emit_process;
 use crate::labels::{CLOSING_TEXT, MAIN, RAISE, item_label};
 use crate::loads::{THIRD_BYTE, emit_load};
@@ -60,9 +61,10 @@ fn with_library(alloc: Global, ir: &Ir) -> Result<Frag, NoMemory>
     Ok(frag)
 }
 
-/// Adds the setting of the registers that code keeps everywhere. The only error is want of memory.
-fn emit_prologue(frag: &mut Frag) -> Result<(), NoMemory>
-    ensures { OnOk result (frag.new ≡ with_code prologue frag.old) }
+/// Adds the setting of the registers that code keeps everywhere, and of the item of DATA that is the first. The only error is want of
+/// memory.
+fn emit_prologue(frag: &mut Frag, first: u32) -> Result<(), NoMemory>
+    ensures { OnOk result (frag.new ≡ with_code (prologue first) frag.old) }
 {
     emit_process(
         frag,
@@ -74,20 +76,22 @@ fn emit_prologue(frag: &mut Frag) -> Result<(), NoMemory>
     )?;
     emit_load(frag, NUMBERS, NUMBERS_END)?;
     emit_load(frag, TEXTS, TEXTS_END)?;
-    emit_load(frag, STACK, STACK_END)
+    emit_load(frag, STACK, STACK_END)?;
+    emit_restore(frag, first)
 }
 
-/// Adds the raising of errors, and the beginning of the program. The only error is want of memory.
-fn emit_beginning(frag: &mut Frag) -> Result<(), NoMemory>
+/// Adds the raising of errors, and the beginning of the program, by the address of the first item of DATA. The only error is want of
+/// memory.
+fn emit_beginning(frag: &mut Frag, first: u32) -> Result<(), NoMemory>
     requires raise { IsOpen frag.old raise_label }
     requires main { IsOpen frag.old main_label }
     requires labels { raise_label < length frag.old.places }
-    ensures { OnOk result (frag.new ≡ with_beginning frag.old) }
+    ensures { OnOk result (frag.new ≡ with_beginning first frag.old) }
 {
     frag.place(RAISE);
     frag.branch(AL, true, CLOSING_TEXT)?;
     frag.place(MAIN);
-    emit_prologue(frag)
+    emit_prologue(frag, first)
 }
 
 /// Adds the operations and the end after them, by the table of the texts' addresses and the address of the branches to items. The
@@ -115,8 +119,8 @@ pub fn program_frag(alloc: Global, ir: &Ir) -> Result<Frag, NoMemory>
 {
     let mut frag = with_library(alloc, ir)?;
     let branches = emit_branches(&mut frag, ir.starts.len() as u32)?;
-    emit_beginning(&mut frag)?;
     let table = text_addresses(alloc, ir)?;
+    emit_beginning(&mut frag, first_item(ir, table.as_slice()))?;
     emit_program(&mut frag, ir, table.as_slice(), branches)?;
     Ok(frag)
 }

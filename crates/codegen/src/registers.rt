@@ -25,6 +25,9 @@ pub const COLUMN: u16 = 0x6c;
 /// Where the number of open loops and GOSUBs stands, from the residents on, in bytes.
 pub const OPENED_COUNT: u16 = 0x70;
 
+/// Where the address of the next item of DATA stands, from the residents on, in bytes.
+pub const NEXT_ITEM: u16 = 0x78;
+
 /// Where the cells of names stand, from the residents on, in bytes; and the bytes of a cell.
 pub const CELLS: u32 = 0x100;
 

@@ -22,7 +22,7 @@ resolve-requires-clause-few c =
 
 pub returns-clause-agrees : goal.returns-clause-agrees
 returns-clause-agrees c =
-    let can : CanGenerate c.args.ir.now = record { well_formed = c.requires.well_formed; in_items = c.requires.in_items; have_code = c.requires.have_code; widths = c.all_have_widths.ensures } in
+    let can : CanGenerate c.args.ir.now = record { well_formed = c.requires.well_formed; in_items = c.requires.in_items; have_code = c.requires.have_code; widths = c.all_have_widths.ensures; short_data = c.requires.short_data } in
     let is_program = c.frag.view_is ∙ c.in_ok-frag.ensures.built in
     IfOk-weaker c.resolve.result _ _ (λ words is. words_agree c.args.ir.now _ words.items can c.in_ok-frag.ensures.bytes c.frag.invariant is_program (is ∙ ap words_of (sym c.frag.view_is)) c.requires.size) c.resolve.ensures.words
 

@@ -1,14 +1,11 @@
-use Rattle.std.proofs.Common.{sym, subst, ◌∙◌, length, get_or, ◌<◌, pos}
+use Rattle.std.proofs.Common.{sym, subst, ◌∙◌, get_or, pos}
 use Rattle.bas_ir.specs.declared.op.Op.TheVariants as o
 use Rattle.bas_ir.specs.Places.{marks_in}
 use Rattle.codegen.specs.Emission.{LeadsInto}
-use Rattle.codegen.specs.Program.{text_address}
+use Rattle.codegen.specs.Program.{named_text}
 use Rattle.codegen.specs.Placing.{with_ops}
-use Rattle.codegen.proofs.EmitLaws.{addresses-some, op_at, code_more, unplaced_more, items_more}
+use Rattle.codegen.proofs.EmitLaws.{op_at, code_more, unplaced_more, items_more}
 use Rattle.codegen.proofs.placing.emit_ops.Goals as goal
-
-pub address_of-text_address-requires : goal.address_of-text_address-requires
-address_of-text_address-requires c = subst (λ table. 0 < length table) (sym c.requires.addresses) (addresses-some c.args.ir.now)
 
 pub emit_marked-requires-clause-leads : goal.emit_marked-requires-clause-leads
 emit_marked-requires-clause-leads c =
@@ -22,7 +19,7 @@ loop-pc-preserved c =
     record {
       code = code_more ir ops marks c.loop-pc.pc c.loop-pc.item c.in_ok-item.item c.address_of-text_address.result c.args.branches (o.Push (pos 0)) c.loop-pc.frag c.emit_marked.new.frag c.as_slice-ops.ensures c.as_slice-marks.ensures c.loop-pc-test.true c.requires.marks
           c.in_ok-item.ensures.code c.in_ok-item.ensures.next
-          c.args.table.now (with_ops (text_address ir) c.args.branches ir.ops ir.marks 0 c.args.frag.now) c.requires.addresses c.address_of-text_address.ensures c.loop-pc.invariant.code;
+          (with_ops (named_text ir) c.args.branches ir.ops ir.marks 0 c.args.frag.now) c.address_of-text_address.ensures c.loop-pc.invariant.code;
       unplaced = unplaced_more ir ops marks c.loop-pc.pc c.loop-pc.item c.in_ok-item.item c.address_of-text_address.result c.args.branches (o.Push (pos 0)) c.loop-pc.frag c.emit_marked.new.frag c.as_slice-ops.ensures c.as_slice-marks.ensures c.loop-pc-test.true c.requires.marks
           c.in_ok-item.ensures.code c.in_ok-item.ensures.next c.loop-pc.invariant.unplaced;
       items = items_more ir ops marks c.loop-pc.pc c.loop-pc.item c.in_ok-item.item c.address_of-text_address.result c.args.branches (o.Push (pos 0)) c.loop-pc.frag c.emit_marked.new.frag c.as_slice-ops.ensures c.as_slice-marks.ensures c.loop-pc-test.true c.requires.marks

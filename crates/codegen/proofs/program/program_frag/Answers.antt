@@ -35,16 +35,16 @@ emit_beginning-requires-clause-labels c =
 pub emit_program-requires-clause-open : goal.emit_program-requires-clause-open
 emit_program-requires-clause-open c =
     let frag = with_branches-is c.args.ir.now c.len.result c.in_ok-frag.frag c.emit_branches.new.frag c.in_ok-frag.ensures.built c.len.ensures c.requires.items c.in_ok-branches.ensures.code in
-    subst (AreOpen 0) (sym c.in_ok-emit_beginning.ensures) (items_open c.args.ir.now c.emit_branches.new.frag (ap (λ (f : FragState). f.places) frag))
+    subst (AreOpen 0) (sym c.in_ok-emit_beginning.ensures) (items_open c.args.ir.now c.first_item.result c.emit_branches.new.frag (ap (λ (f : FragState). f.places) frag))
 
 pub emit_program-requires-clause-labels : goal.emit_program-requires-clause-labels
 emit_program-requires-clause-labels c =
     let frag = with_branches-is c.args.ir.now c.len.result c.in_ok-frag.frag c.emit_branches.new.frag c.in_ok-frag.ensures.built c.len.ensures c.requires.items c.in_ok-branches.ensures.code in
-    ap (λ (f : FragState). length f.places) c.in_ok-emit_beginning.ensures ∙ begun_count c.emit_branches.new.frag ∙ ap (λ (f : FragState). length f.places) frag ∙ count_labels c.args.ir.now
+    ap (λ (f : FragState). length f.places) c.in_ok-emit_beginning.ensures ∙ begun_count c.first_item.result c.emit_branches.new.frag ∙ ap (λ (f : FragState). length f.places) frag ∙ count_labels c.args.ir.now
 
 pub emit_program-requires-clause-few : goal.emit_program-requires-clause-few
 emit_program-requires-clause-few c =
-    let count = ap (λ (f : FragState). length f.places) c.in_ok-emit_beginning.ensures ∙ begun_count c.emit_branches.new.frag ∙ ap (λ (f : FragState). length f.places) c.in_ok-branches.ensures.code in
+    let count = ap (λ (f : FragState). length f.places) c.in_ok-emit_beginning.ensures ∙ begun_count c.first_item.result c.emit_branches.new.frag ∙ ap (λ (f : FragState). length f.places) c.in_ok-branches.ensures.code in
     omega (arith, count, c.in_ok-frag.ensures.few)
 
 pub emit_program-requires-clause-branches : goal.emit_program-requires-clause-branches
@@ -55,5 +55,5 @@ pub returns-clause-built : goal.returns-clause-built
 returns-clause-built c =
     let frag = with_branches-is c.args.ir.now c.len.result c.in_ok-frag.frag c.emit_branches.new.frag c.in_ok-frag.ensures.built c.len.ensures c.requires.items c.in_ok-branches.ensures.code in
     c.in_ok-emit_program.ensures
-    ∙ ap (with_program c.args.ir.now) (c.in_ok-emit_beginning.ensures ∙ ap with_beginning frag)
+    ∙ ap (with_program c.args.ir.now) (c.in_ok-emit_beginning.ensures ∙ (λ i. with_beginning (c.first_item.ensures i) (frag i)))
     ∙ program-is c.args.ir.now c.requires.laid_out.marks
