@@ -1,6 +1,9 @@
+pub mod Options
 pub mod Writing
 pub mod CallFree
 pub mod Counting
 pub mod Closing
+pub mod Steps
+pub mod Placed
 pub mod SoFar
 pub mod Ends

@@ -7,6 +7,8 @@ mod interp;
 mod loops;
 mod memory;
 mod operators;
+mod places;
+mod quick;
 mod read;
 mod run;
 mod stack;

@@ -14,7 +14,7 @@ use std::alloc::Global;
 #[derive(Drop)]
 pub(crate) struct Memory {
     /// A% to Z%, and @%.
-    pub(crate) residents: Vec<i32>,
+    pub(crate) residents: [i32; RESIDENTS],
     /// The integer of each name, `None` where it was never made.
     pub(crate) integers: Vec<Option<i32>>,
     pub(crate) column: Column,
@@ -37,13 +37,12 @@ impl Memory {
         if code.starts.len() > u32::MAX as usize {
             return Err(NoMemory);
         }
-        let residents = vec![in alloc; 0; RESIDENTS]?;
         let integers = vec![in alloc; None; code.names.len()]?;
         let numbers = Stack::new(alloc, 0, code.ops.len())?;
         let texts = Stack::new(alloc, 0, code.ops.len())?;
         let opened = OpenEntries::new(alloc)?;
         Ok(Memory {
-            residents,
+            residents: [0; RESIDENTS],
             integers,
             column: Column { at: 0 },
             data_place: 0,

@@ -20,6 +20,7 @@ fn sign(x: i32) -> i32
 }
 
 /// What a word or sign makes of a number, or its error.
+#[inline(always)]
 pub(crate) fn of_one(op: UnaryOp, x: i32) -> Result<i32, u8>
     ensures { result ≡ of_one op x }
 {
@@ -33,6 +34,7 @@ pub(crate) fn of_one(op: UnaryOp, x: i32) -> Result<i32, u8>
 }
 
 /// What a comparison makes of two numbers.
+#[inline(always)]
 fn compared(op: Comparison, x: i32, y: i32) -> i32
     ensures { result ≡ exact (comparison op) x y }
 {
@@ -47,6 +49,7 @@ fn compared(op: Comparison, x: i32, y: i32) -> i32
 }
 
 /// What an operator makes of two numbers, or its error.
+#[inline(always)]
 pub(crate) fn of_two(op: BinaryOp, x: i32, y: i32) -> Result<i32, u8>
     ensures { result ≡ of_two op x y }
 {
