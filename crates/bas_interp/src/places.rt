@@ -1,5 +1,5 @@
 //! The steps of a run, and where its jumps lead.
-ghost use Rattle.std.specs.Prelude.{◌≡◌, ◌+◌, ◌<◌, ◌^◌, true, false, Some, None, length, min, slice_index_or};
+ghost use Rattle.std.specs.Prelude.{◌≡◌, ◌<◌, ◌^◌, true, false, Some, None, length, min, slice_index_or};
 ghost use Rattle.bas_interp.specs.Steps.{paid};
 
 /// Takes the step of an operation, if it takes one. False where no step is left.
