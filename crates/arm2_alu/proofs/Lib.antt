@@ -6,3 +6,4 @@ pub mod ShiftValues
 pub mod ValueLaws
 pub mod SignedLaws
 pub mod ConditionLaws
+mod HoldingLaws

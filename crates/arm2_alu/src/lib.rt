@@ -10,7 +10,7 @@ mod regs;
 mod shifts;
 
 pub use operands::{ahead_of, amount_operand, is_by_register, register_at, second_operand};
-pub use operations::{Computed, compute, is_test};
+pub use operations::{Computed, compute, compute_immediate, is_test};
 pub use pc::{PC_END, Pc};
 pub use psr::{PSR_END, Psr};
 pub use regs::Regs;

@@ -33,15 +33,25 @@ pub fn register_at(field: u16, low: u16) -> u8
     ((field >> low) % 16) as u8
 }
 
+#[tactic(auto, using(crate::proofs::OperandLaws::immediate_laws))]
+/// The value of an immediate operand.
+#[inline(always)]
+pub(crate) fn immediate_value(op2: u16) -> u32
+    requires { op2 < 2 ^ 12 }
+    ensures { result ≡ immediate_value op2 }
+{
+    u32::from(op2 % 256).rotate_right(2 * u32::from(op2 >> 8))
+}
+
 #[tactic(auto, using(crate::proofs::OperandLaws::immediate_laws), unfolding(crate::specs::Operands::immediate_operand))]
-#[inline]
-fn immediate_operand(op2: u16, carry: bool) -> Shifted
+/// An immediate operand with its carry.
+#[inline(always)]
+pub(crate) fn immediate_operand(op2: u16, carry: bool) -> Shifted
     requires { op2 < 2 ^ 12 }
     ensures { result ≡ immediate_operand op2 carry }
 {
-    let turns = u32::from(op2 >> 8);
-    let value = u32::from(op2 % 256).rotate_right(2 * turns);
-    let carry = if turns == 0 { carry } else { bit(value, 31) };
+    let value = immediate_value(op2);
+    let carry = if op2 >> 8 == 0 { carry } else { bit(value, 31) };
     Shifted { value, carry }
 }
 

@@ -1,8 +1,10 @@
 //! The sixteen operations of data processing.
-ghost use Rattle.std.specs.Prelude.{◌≡◌, not, true, pos, ◌+ℤ◌, ◌-ℤ◌};
+ghost use Rattle.std.specs.Prelude.{◌≡◌, ◌<◌, ◌^◌, not, true, pos, ◌+ℤ◌, ◌-ℤ◌};
 ghost use Rattle.std.specs.Int.{w32, cast_signed, from_bool};
-ghost use Rattle.arm2_alu.specs.Operations.{is_signed_word, added, subtracted, is_test, computed};
+ghost use Rattle.arm2_alu.specs.Operands.{immediate_operand};
+ghost use Rattle.arm2_alu.specs.Operations.{is_signed_word, added, subtracted, is_test, logical, computed};
 
+use crate::operands::{immediate_operand, immediate_value};
 use crate::shifts::Shifted;
 use arm_isa::numbers::{ADC, ADD, AND, BIC, CMN, CMP, EOR, MOV, ORR, RSB, RSC, SBC, SUB, TEQ, TST};
 
@@ -95,24 +97,59 @@ fn carry_on(value: u32, b: Shifted, overflow: bool) -> Computed
     }
 }
 
-#[tactic(auto, unfolding(crate::specs::Operations::computed, crate::specs::Operations::logical))]
+#[tactic(auto, unfolding(crate::specs::Operations::logical))]
+/// The value of an operation without a sum.
+#[inline(always)]
+fn logical(op: u8, a: u32, b: u32) -> u32
+    ensures { result ≡ logical op a b }
+{
+    match op {
+        AND | TST => a & b,
+        EOR | TEQ => a ^ b,
+        ORR => a | b,
+        MOV => b,
+        BIC => a & !b,
+        _ => !b,
+    }
+}
+
+#[tactic(auto, unfolding(crate::specs::Operations::computed))]
 /// An operation on a first operand and a shifted second one, with C and V as they were.
 #[inline(always)]
 pub fn compute(op: u8, a: u32, b: Shifted, carry: bool, overflow: bool) -> Computed
     ensures { result ≡ computed op a b carry overflow }
 {
     match op {
-        AND | TST => carry_on(a & b.value, b, overflow),
-        EOR | TEQ => carry_on(a ^ b.value, b, overflow),
         SUB | CMP => subtract(a, b.value),
         RSB => subtract(b.value, a),
         ADD | CMN => add(a, b.value, false),
         ADC => add(a, b.value, carry),
         SBC => add(a, !b.value, carry),
         RSC => add(b.value, !a, carry),
-        ORR => carry_on(a | b.value, b, overflow),
-        MOV => carry_on(b.value, b, overflow),
-        BIC => carry_on(a & !b.value, b, overflow),
-        _ => carry_on(!b.value, b, overflow),
+        _ => carry_on(logical(op, a, b.value), b, overflow),
+    }
+}
+
+#[tactic(auto, unfolding(crate::specs::Operations::computed, crate::specs::Operands::immediate_operand))]
+/// An operation on a first operand and an immediate one, with C and V as they were. Only an operation without a sum looks for the
+/// immediate's own carry.
+#[inline(always)]
+pub fn compute_immediate(op: u8, a: u32, op2: u16, carry: bool, overflow: bool) -> Computed
+    requires { op2 < 2 ^ 12 }
+    ensures { result ≡ computed op a (immediate_operand op2 carry) carry overflow }
+{
+    let value = immediate_value(op2);
+    match op {
+        SUB | CMP => subtract(a, value),
+        RSB => subtract(value, a),
+        ADD | CMN => add(a, value, false),
+        ADC => add(a, value, carry),
+        SBC => add(a, !value, carry),
+        RSC => add(value, !a, carry),
+        _ => carry_on(
+            logical(op, a, value),
+            immediate_operand(op2, carry),
+            overflow,
+        ),
     }
 }

@@ -1,6 +1,6 @@
 //! The registers, and all that is read of them and written to them.
 ghost use Rattle.std.specs.Prelude.{◌≡◌, ◌%◌, ◌≤◌, replicate, true};
-ghost use Rattle.arm2_alu.specs.Conditions.{negative, zero_flag, carry, overflow, even_condition, holds, with_flags};
+ghost use Rattle.arm2_alu.specs.Conditions.{negative, zero_flag, carry, overflow, holds, with_flags};
 ghost use Rattle.arm2_alu.specs.Operands.{first_operand, whole_operand};
 ghost use Rattle.arm2_alu.specs.Registers.{IsValidRegs, banked, with_banked, register, with_register, r15, at_next, jumped, takes_psr, with_psr};
 ghost use Rattle.arm2_alu.specs.Results.{flagged, loaded};
@@ -9,10 +9,16 @@ use crate::operations::Computed;
 use crate::pc::{PC_END, Pc};
 use crate::psr::Psr;
 use arm_isa::bit;
-use arm_isa::numbers::{AL, CS, EQ, GE, GT, HI, MI, R13, R15, VS};
+use arm_isa::numbers::{AL, R13, R15};
 
 /// How many registers both modes share, R0 to R12.
 const SHARED: usize = 13;
+
+/// The flags under which each condition from EQ to NV holds: bit 8N + 4Z + 2C + V tells of N, Z, C and V.
+const HOLDING: [u16; 16] = [
+    0xf0f0, 0x0f0f, 0xcccc, 0x3333, 0xff00, 0x00ff, 0xaaaa, 0x5555, 0x0c0c, 0xf3f3, 0xaa55, 0x55aa,
+    0x0a05, 0xf5fa, 0xffff, 0x0000,
+];
 
 /// The registers of the ARM2 (VL86C010 (ARM2) data manual, registers).
 #[derive(Clone, Copy, Debug, PartialEq, Eq)]
@@ -218,36 +224,18 @@ impl Regs {
         bit(self.psr.bits().into(), 2)
     }
 
-    #[tactic(auto, unfolding(crate::specs::Conditions::even_condition))]
-    /// Whether EQ, CS, MI, VS, HI, GE, GT or AL holds: the even conditions.
-    #[inline]
-    fn even_condition(&self, cond: u8) -> bool
-        ensures { result ≡ even_condition cond self.now }
-    {
-        match cond {
-            EQ => self.is_zero(),
-            CS => self.has_carry(),
-            MI => self.is_negative(),
-            VS => self.has_overflow(),
-            HI => self.has_carry() && !self.is_zero(),
-            GE => self.is_negative() == self.has_overflow(),
-            GT => !self.is_zero() && self.is_negative() == self.has_overflow(),
-            _ => true,
-        }
-    }
-
-    #[tactic(auto, unfolding(crate::specs::Conditions::holds, crate::specs::Conditions::even_condition))]
     /// Whether a condition, 0 (EQ) to 15 (NV), holds.
-    #[inline]
+    #[inline(always)]
     pub fn holds(&self, cond: u8) -> bool
         ensures { result ≡ holds cond self.now }
     {
+        // Most instructions have AL.
         if cond == AL {
-            true
-        } else if cond % 2 == 0 {
-            self.even_condition(cond)
-        } else {
-            !self.even_condition(cond / 2 * 2)
+            return true;
+        }
+        match HOLDING.get(usize::from(cond)) {
+            Some(flags) => (*flags >> (self.psr.bits() / 4)) % 2 == 1,
+            None => cond % 2 == 0,
         }
     }
 

@@ -7,6 +7,7 @@ use crate::classes::{Class, class_of};
 use crate::fields::{bit, bits, nibble};
 use crate::instruction::{BRANCH_WORDS, Instr};
 
+#[inline(always)]
 fn data(word: u32) -> Instr
     ensures { result ≡ data_of word }
 {
@@ -21,6 +22,7 @@ fn data(word: u32) -> Instr
     }
 }
 
+#[inline(always)]
 fn multiply(word: u32) -> Instr
     ensures { result ≡ multiply_of word }
 {
@@ -35,6 +37,7 @@ fn multiply(word: u32) -> Instr
     }
 }
 
+#[inline(always)]
 fn single(word: u32) -> Instr
     ensures { result ≡ single_of word }
 {
@@ -52,6 +55,7 @@ fn single(word: u32) -> Instr
     }
 }
 
+#[inline(always)]
 fn block(word: u32) -> Instr
     ensures { result ≡ block_of word }
 {
@@ -68,6 +72,7 @@ fn block(word: u32) -> Instr
 }
 
 /// The distance of a branch, in words, whose lowest 24 bits the word has.
+#[inline(always)]
 fn branch_words(word: u32) -> i32
     ensures { result ≡ signed_offset (bits word 23 0) }
 {
@@ -79,6 +84,7 @@ fn branch_words(word: u32) -> i32
     }
 }
 
+#[inline(always)]
 fn branch(word: u32) -> Instr
     ensures { result ≡ branch_of word }
 {
@@ -89,6 +95,7 @@ fn branch(word: u32) -> Instr
     }
 }
 
+#[inline(always)]
 fn swi(word: u32) -> Instr
     ensures { result ≡ swi_of word }
 {
@@ -99,6 +106,7 @@ fn swi(word: u32) -> Instr
 }
 
 /// A word read as one of a class.
+#[inline(always)]
 fn read_as(class: Class, word: u32) -> Instr
     ensures { result ≡ read_as class word }
 {
@@ -115,6 +123,7 @@ fn read_as(class: Class, word: u32) -> Instr
 
 /// The instruction that a word is (VL86C010 (ARM2) data manual, instruction set): every word is one. Encoding it
 /// gives the word back.
+#[inline(always)]
 pub fn decode(word: u32) -> Instr
     ensures value { result ≡ means word }
     ensures valid { IsValid result }

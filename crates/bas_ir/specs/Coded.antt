@@ -1,11 +1,11 @@
 -- Which operations have machine code yet, and how many strings are pending before them. This project's own.
 use Rattle.std.specs.Prelude.{◌≡◌, ℕ, suc, ◌<◌, ◌≤◌, ◌^◌, FitsSigned, Some, length, slice_get}
-use Rattle.std.specs.Int.{w32}
+use Rattle.std.specs.Int.{w16, w32}
 use Rattle.bas_ir.specs.declared.ir.Ir.{Ir}
-use Rattle.bas_ir.specs.declared.op.Counter.{Counter}
-use Rattle.bas_ir.specs.declared.op.Counter.TheVariants as counters
 use Rattle.bas_ir.specs.declared.op.Op.{Op}
 use Rattle.bas_ir.specs.declared.op.Op.TheVariants as o
+use Rattle.bas_store.specs.declared.cell.IntegerCell.{IntegerCell}
+use Rattle.bas_store.specs.declared.cell.IntegerCell.TheVariants as cells
 use Rattle.bas_store.specs.Cells.{residents}
 use Rattle.bas_ir.specs.Heights.{empty_height, one_more}
 use Rattle.bas_ir.specs.Places.{start_of, marks_in}
@@ -15,6 +15,8 @@ use Rattle.bas_ir.specs.WellFormed.{height_at}
 -- byte.
 abbrev pub HasCode : Op → Type 0
 HasCode (o.PushResident index) = index < residents
+HasCode (o.BinaryWithResident op resident line) = resident < residents
+HasCode (o.ChangeResident op resident line number) = resident < residents
 HasCode (o.StoreResident index) = index < residents
 HasCode (o.RaiseIfOne error line) = error < 2 ^ 8
 HasCode (o.Raise error line) = error < 2 ^ 8
@@ -37,12 +39,13 @@ abbrev pub AtMostOneText : Ir → Type 0
 AtMostOneText ir = (pc : ℕ) → (height_at ir pc).texts ≤ 1
 
 -- the number of a FOR's variable has the width of its field
-abbrev pub HasCounterWidth : Counter → Type 0
-HasCounterWidth (counters.Resident index) = index < 2 ^ 8
-HasCounterWidth (counters.Integer name) = name < 2 ^ 16
+abbrev pub HasCounterWidth : IntegerCell → Type 0
+HasCounterWidth (cells.Resident index) = index < 2 ^ 8
+HasCounterWidth (cells.Named name) = name < 2 ^ 16
 
--- The numbers of an operation that has machine code have the widths of their fields: integers have 32 bits with a sign, places of
--- items, texts and items of DATA 32 bits, names and lines 16 bits, residents and errors 8 bits.
+-- The numbers of an operation that has machine code have the widths of their fields: integers have 32 bits with a sign, and constants
+-- that an operator takes along 16; places of items, texts and items of DATA have 32 bits, but 16 beside a constant; names and lines 16
+-- bits, residents and errors 8 bits.
 abbrev pub HasWidths : Op → Type 0
 HasWidths (o.Push value) = FitsSigned w32 value
 HasWidths (o.PushResident index) = index < 2 ^ 8
@@ -50,10 +53,15 @@ HasWidths (o.PushInteger name line) = (name < 2 ^ 16) × (line < 2 ^ 16)
 HasWidths (o.PushText number) = number < 2 ^ 32
 HasWidths (o.Unary op line) = line < 2 ^ 16
 HasWidths (o.Binary op line) = line < 2 ^ 16
+HasWidths (o.BinaryWith op line number) = (line < 2 ^ 16) × FitsSigned w16 number
+HasWidths (o.BinaryWithResident op resident line) = (resident < 2 ^ 8) × (line < 2 ^ 16)
+HasWidths (o.ChangeResident op resident line number) = (resident < 2 ^ 8) × (line < 2 ^ 16) × FitsSigned w16 number
 HasWidths (o.StoreResident index) = index < 2 ^ 8
 HasWidths (o.StoreInteger name) = name < 2 ^ 16
 HasWidths (o.Go item) = item < 2 ^ 32
 HasWidths (o.GoIfZero item) = item < 2 ^ 32
+HasWidths (o.GoUnless relation item) = item < 2 ^ 32
+HasWidths (o.GoUnlessWith relation item number) = (item < 2 ^ 16) × FitsSigned w32 number
 HasWidths (o.GoIfOne item) = item < 2 ^ 32
 HasWidths (o.GosubIfOne line item) = (item < 2 ^ 32) × (line < 2 ^ 16)
 HasWidths (o.GoIfEqual item) = item < 2 ^ 32
@@ -80,6 +88,8 @@ AllHaveWidths ir = (pc : ℕ) (op : Op) → slice_get ir.ops pc ≡ Some op → 
 abbrev pub LeavesNothing : Ir → ℕ → Op → Type 0
 LeavesNothing ir pc (o.Go item) = height_at ir pc ≡ empty_height
 LeavesNothing ir pc (o.GoIfZero item) = height_at ir (suc pc) ≡ empty_height
+LeavesNothing ir pc (o.GoUnless relation item) = height_at ir (suc pc) ≡ empty_height
+LeavesNothing ir pc (o.GoUnlessWith relation item number) = height_at ir (suc pc) ≡ empty_height
 LeavesNothing ir pc (o.GoIfOne item) = height_at ir (suc pc) ≡ one_more empty_height
 LeavesNothing ir pc (o.GosubIfOne line item) = height_at ir (suc pc) ≡ one_more empty_height
 LeavesNothing ir pc (o.GoIfEqual item) = height_at ir (suc pc) ≡ one_more empty_height

@@ -8,4 +8,4 @@ mod op;
 
 pub use ir::{Height, Ir, LineStart, Routine};
 pub use laws::{all_have_widths, errors_handled};
-pub use op::{CallKind, Counter, Mark, Op, Piece};
+pub use op::{CallKind, Mark, Op, Piece};

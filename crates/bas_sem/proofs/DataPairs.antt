@@ -1,6 +1,6 @@
 -- What more steps change where DATA is read: nothing.
 use Rattle.std.proofs.Common.{ℕ, List, Option, None, Some, refl, arith}
-use Rattle.std.specs.Prelude.{ℤ, slice_get}
+use Rattle.std.specs.Prelude.{slice_get}
 use Rattle.bas_value.specs.Errors.{no_such_line, out_of_data}
 use Rattle.bv_num.specs.Value.{data_value}
 use Rattle.bas_sem.specs.Data.{item_taken, place_now, next_item, next_number, restore_to, restore}

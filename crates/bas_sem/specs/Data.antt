@@ -1,10 +1,9 @@
 -- The items of DATA, which READ takes one after another (BBC BASIC Reference Manual: DATA, READ, RESTORE).
-use Rattle.std.specs.Prelude.{ℕ, zero, suc, ◌+◌, ℤ, List, [], ◌∷◌, Option, None, Some, map, nat_lt, slice_get, if◌then◌else◌}
+use Rattle.std.specs.Prelude.{ℕ, suc, ◌+◌, ℤ, List, [], ◌∷◌, Option, None, Some, map, nat_lt, slice_get, if◌then◌else◌}
 use Rattle.bas_ast.specs.declared.program.DataItem.{DataItem}
 use Rattle.bas_ast.specs.declared.program.Prog.{Prog}
 use Rattle.bas_value.specs.Errors.{no_such_line, out_of_data}
 use Rattle.bv_num.specs.Value.{data_value}
-use Rattle.bas_sem.specs.State.{State}
 use Rattle.bas_sem.specs.Course.{Value, Action, ◌>>=◌}
 use Rattle.bas_sem.specs.Actions.{raise, or_raise}
 use Rattle.bas_sem.specs.Places.{line_of_number}

@@ -27,7 +27,7 @@ pub enum BasValue {
 }
 
 /// The cell of an integer.
-#[derive(Clone, Copy, Drop)]
+#[derive(Debug, Clone, Copy, PartialEq, Eq, Drop)]
 pub enum IntegerCell {
     /// A resident integer: A% to Z% are 0 to 25, and @% is 26.
     Resident(u8),

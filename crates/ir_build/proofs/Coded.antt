@@ -44,7 +44,10 @@ use Rattle.bas_ir.specs.Coded.{HasCode, AllHaveCode, AtMostOneText}
 use Rattle.bas_store.specs.Cells.{Cell, Resident, Integer, integer_cell}
 use Rattle.bas_sem.specs.Data.{restored}
 use Rattle.bas_sem.specs.Places.{Row, Branch, rows, line_place, else_place, on_else, after_end, branches_of}
-use Rattle.ir_build.specs.Code.{unary_code, read_op, store_op, expr_code, text_code, assignment_code, go_op, gosub_op, counter_of, step_code, nexts_code, next_code, flow_code, choice_op, choices_code, otherwise_op, print_code, vdu_code, output_code, reads_code, restore_op, statement_code, values_code, branches_code, case_code, head_code, item_code, or_jump, codes_from, codes, joined, heights_of, flat_code}
+use Rattle.ir_build.specs.Code.{unary_code, read_op, store_op, expr_code, text_code, assignment_code, go_op, gosub_op, counter_of, step_code, nexts_code, next_code, flow_code, choice_op, choices_code, otherwise_op, print_code, vdu_code, output_code, reads_code, restore_op, statement_code, values_code, branches_code, case_code, head_code, item_code, or_jump, row_ops, codes_from, codes, joined, heights_of, flat_code}
+use Rattle.ir_build.specs.Fused.{fused_with, fused}
+use Rattle.ir_build.proofs.Fusing as f
+use Rattle.ir_build.proofs.Fusing.{Fuses, fuses}
 use Rattle.ir_build.proofs.Residents.{IsOneCell, integer_one}
 
 -- whether a string is pending after an operation, None where the operation may not come
@@ -256,6 +259,26 @@ jump_coded : (next : ℕ) (ops : List Op) → AreCoded ops → AreCoded (or_jump
 jump_coded next [] coded = (tt, tt)
 jump_coded next (op ∷ ops) coded = coded
 
+-- fused operations
+fuse_coded : (old new : List Op) → Fuses old new → (pending : Bool) → Coded (Some pending) old → Coded (Some pending) new
+fuse_coded old new (f.same ops) pending coded = coded
+fuse_coded old new (f.constant value op line rest) true coded = absurd coded.1
+fuse_coded old new (f.constant value op line rest) false coded = coded.1
+fuse_coded old new (f.resident index op line rest) true coded = absurd coded.1
+fuse_coded old new (f.resident index op line rest) false coded = (coded.0, coded.1.1)
+fuse_coded old new (f.change index op line number rest) true coded = absurd coded.1
+fuse_coded old new (f.change index op line number rest) false coded = (coded.0, coded.1.1.1)
+fuse_coded old new (f.comparison relation line item rest) true coded = absurd coded.1
+fuse_coded old new (f.comparison relation line item rest) false coded = coded.1
+fuse_coded old new (f.compared value relation item rest) true coded = absurd coded.1
+fuse_coded old new (f.compared value relation item rest) false coded = coded.1
+
+fused_coded : (ops : List Op) (pending : Option Bool) → Coded pending ops → Coded pending (fused ops)
+fused_coded ops None coded = absurd coded
+fused_coded [] (Some b) coded = coded
+fused_coded (op ∷ ops) (Some b) coded =
+    fuse_coded (op ∷ fused ops) (fused_with op (fused ops)) (fuses op (fused ops)) b (coded.0, fused_coded ops (text_after b op) coded.1)
+
 -- the code of every item
 abbrev AllCoded : List (List Op) → Type 0
 AllCoded [] = Unit {0}
@@ -263,7 +286,10 @@ AllCoded (c ∷ cs) = AreCoded c × AllCoded cs
 
 codes_from_coded : (prog : Prog) (rs : List Row) (base : ℕ) → AllCoded (codes_from prog base rs)
 codes_from_coded prog [] base = tt
-codes_from_coded prog (r ∷ rs) base = (jump_coded (base + 1) (item_code prog base r.line r.item) (item_coded prog r.line base r.item), codes_from_coded prog rs (base + 1))
+codes_from_coded prog (r ∷ rs) base = (
+  fused_coded (row_ops prog base r) (Some false) (jump_coded (base + 1) (item_code prog base r.line r.item) (item_coded prog r.line base r.item)),
+  codes_from_coded prog rs (base + 1),
+)
 
 abbrev IsNot : {A : Type 0} → Option A → Type 0
 IsNot None = Unit {0}
@@ -329,6 +355,9 @@ step_has false (o.PushInteger name line) numbers texts is has = is
 step_has false (o.PushText number) numbers texts is has = ap suc is
 step_has false (o.Unary op line) numbers texts is has = one_for_one_has false numbers texts is
 step_has false (o.Binary op line) numbers texts is has = one_for_two_has false numbers texts is
+step_has false (o.BinaryWith op line number) numbers texts is has = one_for_one_has false numbers texts is
+step_has false (o.BinaryWithResident op resident line) numbers texts is has = one_for_one_has false numbers texts is
+step_has false (o.ChangeResident op resident line number) numbers texts is has = is
 step_has false (o.StoreResident index) numbers texts is has = without_has false numbers texts is
 step_has false (o.StoreInteger name) numbers texts is has = without_has false numbers texts is
 step_has false (o.WriteNumber padded format) numbers texts is has = without_has false numbers texts is
@@ -337,6 +366,8 @@ step_has false (o.Write part) numbers texts is has = without_has false numbers t
 step_has false (o.WriteMark part) numbers texts is has = is
 step_has false (o.Go item) numbers texts is has = is
 step_has false (o.GoIfZero item) numbers texts is has = without_has false numbers texts is
+step_has false (o.GoUnless relation item) numbers texts is has = two_less_has false numbers texts is
+step_has false (o.GoUnlessWith relation item number) numbers texts is has = without_has false numbers texts is
 step_has false o.Discard numbers texts is has = without_has false numbers texts is
 step_has false (o.GoIfOne item) numbers texts is has = one_for_one_has false numbers texts is
 step_has false (o.GosubIfOne line item) numbers texts is has = one_for_one_has false numbers texts is

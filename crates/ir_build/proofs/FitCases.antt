@@ -16,7 +16,8 @@ use Rattle.bas_ir.specs.declared.op.Op.{Op}
 use Rattle.bas_ir.specs.declared.op.Op.TheVariants as o
 use Rattle.bas_ir.specs.Heights.{empty_height, one_more}
 use Rattle.bas_sem.specs.Places.{Row, Branch, rows, depth_after, division, with_division, branches_among, branches_of, after_end}
-use Rattle.ir_build.specs.Code.{expr_code, values_code, branches_code, item_code, or_jump, row_code, codes_from, joined, heights_of}
+use Rattle.ir_build.specs.Code.{expr_code, values_code, branches_code, item_code, or_jump, row_ops, row_code, codes_from, joined, heights_of}
+use Rattle.ir_build.proofs.FusedFits.{fused_cost, fused_there, fused_up_to}
 use Rattle.ir_build.proofs.EndTables.{rows_after}
 use Rattle.ir_build.proofs.Fits.{cost, cost_append, pushes, pushes_append, AllThere, append_there}
 use Rattle.ir_build.proofs.PendingBounds.{AllUpTo, append_up_to, heights_up_to, pieces_up_to, expr_past, values_past}
@@ -83,10 +84,10 @@ module _ (prog : Prog) where
   -- the code of an item and the searches before it cost no more than what its terminals pay for and the searches after it
   abbrev RowPaid : (n after line place : ℕ) → Item → List Row → Type 0
   RowPaid n after line place x rs =
-      searches n (row_of line x ∷ rs) place + cost (row_code prog place (row_of line x)) ≤ searches after rs (place + 1) + cost (paid_row prog place (row_of line x))
+      searches n (row_of line x ∷ rs) place + cost (row_ops prog place (row_of line x)) ≤ searches after rs (place + 1) + cost (paid_row prog place (row_of line x))
 
   -- an item that is nothing to a CASE before it
-  other_paid : (n after line place : ℕ) (x : Item) (rs : List Row) → after ≡ n → row_code prog place (row_of line x) ≡ paid_row prog place (row_of line x)
+  other_paid : (n after line place : ℕ) (x : Item) (rs : List Row) → after ≡ n → row_ops prog place (row_of line x) ≡ paid_row prog place (row_of line x)
       → search_cost 0 (row_of line x ∷ rs) place ≡ search_cost 0 rs (place + 1) → ((k : ℕ) → search_cost (suc k) (row_of line x ∷ rs) place ≡ search_cost (suc k) rs (place + 1))
       → RowPaid n after line place x rs
   other_paid n after line place x rs depth code first later =
@@ -96,7 +97,7 @@ module _ (prog : Prog) where
       omega (arith, same, ap (λ k. searches k rs (place + 1)) depth, ap cost code)
 
   -- a CASE, which is open in what follows
-  open_paid : (n line place : ℕ) (x : Item) (rs : List Row) (own : ℕ) → cost (row_code prog place (row_of line x)) ≤ own + search_cost 0 rs (place + 1)
+  open_paid : (n line place : ℕ) (x : Item) (rs : List Row) (own : ℕ) → cost (row_ops prog place (row_of line x)) ≤ own + search_cost 0 rs (place + 1)
       → own ≤ cost (paid_row prog place (row_of line x))
       → ((k : ℕ) → search_cost k (row_of line x ∷ rs) place ≡ search_cost (suc k) rs (place + 1)) → RowPaid n (suc n) line place x rs
   open_paid n line place x rs own code paid each =
@@ -107,7 +108,7 @@ module _ (prog : Prog) where
 
   -- an item that stands in the search of the nearest CASE before it alone: what is looked at from it on
   divide_paid : (n line place : ℕ) (x : Item) (rs : List Row) (own : ℕ) → search_cost 0 (row_of line x ∷ rs) place ≤ own + search_cost 0 rs (place + 1)
-      → own + cost (row_code prog place (row_of line x)) ≤ cost (paid_row prog place (row_of line x))
+      → own + cost (row_ops prog place (row_of line x)) ≤ cost (paid_row prog place (row_of line x))
       → ((k : ℕ) → search_cost (suc k) (row_of line x ∷ rs) place ≡ search_cost (suc k) rs (place + 1)) → RowPaid n n line place x rs
   divide_paid zero line place x rs own first paid each =
       let none : searches 0 (row_of line x ∷ rs) place ≡ 0 = refl in
@@ -123,7 +124,7 @@ module _ (prog : Prog) where
   end_case_paid : (n line place : ℕ) (rs : List Row) → RowPaid n (n - 1) line place (item.Head head.EndCase) rs
   end_case_paid zero line place rs =
       let none : searches 0 (row_of line (item.Head head.EndCase) ∷ rs) place ≡ 0 = refl in
-      let code : row_code prog place (row_of line (item.Head head.EndCase)) ≡ paid_row prog place (row_of line (item.Head head.EndCase)) = refl in
+      let code : row_ops prog place (row_of line (item.Head head.EndCase)) ≡ paid_row prog place (row_of line (item.Head head.EndCase)) = refl in
       omega (arith, none, ap cost code)
   end_case_paid (suc n) line place rs =
       let x : Item = item.Head head.EndCase in
@@ -131,16 +132,16 @@ module _ (prog : Prog) where
       let same : sum_below n (λ k. search_cost (suc k) (row_of line (item.Head head.EndCase) ∷ rs) place) ≡ searches n rs (place + 1) =
       sum_same n (λ k. search_cost (suc k) (row_of line (item.Head head.EndCase) ∷ rs) place) (λ k. search_cost k rs (place + 1)) (λ k. ap (λ d. search_cost d rs (place + 1)) (one k)) in
       let split : searches (suc n) (row_of line (item.Head head.EndCase) ∷ rs) place ≡ 0 + sum_below n (λ k. search_cost (suc k) (row_of line (item.Head head.EndCase) ∷ rs) place) = refl in
-      let code : row_code prog place (row_of line (item.Head head.EndCase)) ≡ paid_row prog place (row_of line (item.Head head.EndCase)) = refl in
+      let code : row_ops prog place (row_of line (item.Head head.EndCase)) ≡ paid_row prog place (row_of line (item.Head head.EndCase)) = refl in
       omega (arith, same, split, ap cost code, ap (λ d. searches d rs (place + 1)) (one n))
 
   -- the code of CASE
   case_costs : (line place : ℕ) (x : NumExpr) (rs : List Row) → drop (place + 1) (rows prog) ≡ rs
-      → cost (row_code prog place (row_of line (item.Case (any.Number x)))) ≤ (cost (expr_code prog line x) + 16) + search_cost 0 rs (place + 1)
+      → cost (row_ops prog place (row_of line (item.Case (any.Number x)))) ≤ (cost (expr_code prog line x) + 16) + search_cost 0 rs (place + 1)
   case_costs line place x rs is =
       let last : List Op = o.Discard ∷ o.Go (after_end prog OpensCase place) ∷ [] in
       let branches : List Op = branches_code prog (branches_of prog place) in
-      let code : row_code prog place (row_of line (item.Case (any.Number x))) ≡ expr_code prog line x ++ (branches ++ last) =
+      let code : row_ops prog place (row_of line (item.Case (any.Number x))) ≡ expr_code prog line x ++ (branches ++ last) =
       jump_none (place + 1) (expr_code prog line x) branches o.Discard (o.Go (after_end prog OpensCase place) ∷ []) in
       let same : cost branches ≡ search_cost 0 rs (place + 1) = ap (λ l. search_cost 0 l (place + 1)) is in
       let few : cost last ≡ 16 = refl in
@@ -155,10 +156,10 @@ module _ (prog : Prog) where
       omega (arith, ap cost code, cost_append (expr_code prog line x) last, few)
 
   when_pays : (line place : ℕ) (values : List Any)
-      → cost (values_code prog line (place + 1) values) + cost (row_code prog place (row_of line (item.Head (head.When values)))) ≤ cost (paid_row prog place (row_of line (item.Head (head.When values))))
+      → cost (values_code prog line (place + 1) values) + cost (row_ops prog place (row_of line (item.Head (head.When values)))) ≤ cost (paid_row prog place (row_of line (item.Head (head.When values))))
   when_pays line place values =
       let go : List Op = o.Go (after_end prog DividesCase place) ∷ [] in
-      let few : cost (row_code prog place (row_of line (item.Head (head.When values)))) ≡ 8 = refl in
+      let few : cost (row_ops prog place (row_of line (item.Head (head.When values)))) ≡ 8 = refl in
       let all : cost (paid_row prog place (row_of line (item.Head (head.When values)))) ≡ 24 + cost (values_code prog line (place + 1) values ++ go) = refl in
       let last : cost go ≡ 8 = refl in
       omega (arith, few, all, last, cost_append (values_code prog line (place + 1) values) go)
@@ -193,6 +194,7 @@ module _ (prog : Prog) where
         arith,
         own,
         rest,
+        fused_cost (row_ops prog place r),
         cost_append (row_code prog place r) (joined (codes_from prog (place + 1) rs)),
         cost_append (paid_row prog place r) (joined (paid_from prog (place + 1) rs)),
       )
@@ -234,7 +236,7 @@ module _ (prog : Prog) where
   branches_there [] sound = tt
   branches_there (b ∷ bs) sound = append_there prog (values_code prog b.line b.after b.values) (branches_code prog bs) sound.0 (branches_there bs sound.1.1)
 
-  row_there : (line place : ℕ) (x : Item) → AllThere prog (paid_row prog place (row_of line x)) → AllSound (branches_of prog place) → AllThere prog (row_code prog place (row_of line x))
+  row_there : (line place : ℕ) (x : Item) → AllThere prog (paid_row prog place (row_of line x)) → AllSound (branches_of prog place) → AllThere prog (row_ops prog place (row_of line x))
   row_there line place (item.Case (any.Number x)) there sound =
       let last : List Op = o.Discard ∷ o.Go (after_end prog OpensCase place) ∷ [] in
       let branches : List Op = branches_code prog (branches_of prog place) in
@@ -256,7 +258,7 @@ module _ (prog : Prog) where
       (branches_up_to bs ops sound.1.1 rest))
 
   row_up_to : (line place : ℕ) (x : Item) → pushes (paid_row prog place (row_of line x)) ≤ most_symbols → AllSound (branches_of prog place)
-      → AllUpTo most_symbols (heights_of (Some empty_height) (row_code prog place (row_of line x)))
+      → AllUpTo most_symbols (heights_of (Some empty_height) (row_ops prog place (row_of line x)))
   row_up_to line place (item.Case (any.Number x)) low sound =
       let last : List Op = o.Discard ∷ o.Go (after_end prog OpensCase place) ∷ [] in
       let branches : List Op = branches_code prog (branches_of prog place) in
@@ -269,7 +271,7 @@ module _ (prog : Prog) where
       (branches_up_to (branches_of prog place) last sound (lit≤ tt, (lit≤ tt, tt))))
   row_up_to line place (item.Head (head.When values)) low sound = (lit≤ tt, tt)
   row_up_to line place x low sound =
-      heights_up_to (row_code prog place (row_of line x)) (Some empty_height) 0 most_symbols (lit≤ tt) (omega (arith, low))
+      heights_up_to (row_ops prog place (row_of line x)) (Some empty_height) 0 most_symbols (lit≤ tt) (omega (arith, low))
 
   -- The code of rows names what is there, and few values are pending.
   pub record CodesFit (cs : List (List Op)) : Type 0 where
@@ -287,7 +289,7 @@ module _ (prog : Prog) where
       let rest = codes_fit rs (place + 1) after more low.1 in
       record {
         there = append_there prog (row_code prog place r) (joined (codes_from prog (place + 1) rs))
-            (row_there r.line place r.item (front_there own (joined (paid_from prog (place + 1) rs)) there) sound) rest.there;
+            (fused_there prog (row_ops prog place r) (row_there r.line place r.item (front_there own (joined (paid_from prog (place + 1) rs)) there) sound)) rest.there;
         up_to = append_up_to most_symbols (heights_of (Some empty_height) (row_code prog place r)) (flat_map (heights_of (Some empty_height)) (codes_from prog (place + 1) rs))
-            (row_up_to r.line place r.item low.0 sound) rest.up_to;
+            (fused_up_to most_symbols (row_ops prog place r) (Some empty_height) (row_up_to r.line place r.item low.0 sound)) rest.up_to;
       }

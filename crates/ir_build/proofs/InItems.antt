@@ -30,6 +30,8 @@ codes_from_balance prog (r ∷ rs) base = (row_balances prog base r, codes_from_
 abbrev LeavesIn : List Height → ℕ → Op → Type 0
 LeavesIn heights pc (o.Go item) = slice_index_or heights pc empty_height ≡ empty_height
 LeavesIn heights pc (o.GoIfZero item) = slice_index_or heights (suc pc) empty_height ≡ empty_height
+LeavesIn heights pc (o.GoUnless relation item) = slice_index_or heights (suc pc) empty_height ≡ empty_height
+LeavesIn heights pc (o.GoUnlessWith relation item number) = slice_index_or heights (suc pc) empty_height ≡ empty_height
 LeavesIn heights pc (o.GoIfOne item) = slice_index_or heights (suc pc) empty_height ≡ one_more empty_height
 LeavesIn heights pc (o.GosubIfOne line item) = slice_index_or heights (suc pc) empty_height ≡ one_more empty_height
 LeavesIn heights pc (o.GoIfEqual item) = slice_index_or heights (suc pc) empty_height ≡ one_more empty_height
@@ -44,6 +46,8 @@ LeavesIn heights pc _ = Unit {0}
 later : (h : Height) (heights : List Height) (pc : ℕ) (op : Op) → LeavesIn heights pc op → LeavesIn (h ∷ heights) (suc pc) op
 later h heights pc (o.Go item) leaves = leaves
 later h heights pc (o.GoIfZero item) leaves = leaves
+later h heights pc (o.GoUnless relation item) leaves = leaves
+later h heights pc (o.GoUnlessWith relation item number) leaves = leaves
 later h heights pc (o.GoIfOne item) leaves = leaves
 later h heights pc (o.GosubIfOne line item) leaves = leaves
 later h heights pc (o.GoIfEqual item) leaves = leaves
@@ -70,6 +74,9 @@ first_leaves : (op : Op) (c : List Op) (cs : List (List Op)) (h : Height) → Le
     → LeavesIn (h ∷ heights_in (height_after [] op h) c cs) 0 op
 first_leaves (o.Go item) c cs h leaves balances full = leaves
 first_leaves (o.GoIfZero item) c cs h leaves balances full = next_height (o.GoIfZero item) c cs h empty_height balances full leaves
+first_leaves (o.GoUnless relation item) c cs h leaves balances full = next_height (o.GoUnless relation item) c cs h empty_height balances full leaves
+first_leaves (o.GoUnlessWith relation item number) c cs h leaves balances full =
+    next_height (o.GoUnlessWith relation item number) c cs h empty_height balances full leaves
 first_leaves (o.GoIfOne item) c cs h leaves balances full = next_height (o.GoIfOne item) c cs h (one_more empty_height) balances full leaves
 first_leaves (o.GosubIfOne line item) c cs h leaves balances full = next_height (o.GosubIfOne line item) c cs h (one_more empty_height) balances full leaves
 first_leaves (o.GoIfEqual item) c cs h leaves balances full = next_height (o.GoIfEqual item) c cs h (one_more empty_height) balances full leaves
@@ -119,6 +126,8 @@ module _ (prog : Prog) where
   leaves : (pc : ℕ) (op : Op) → LeavesIn (flat_code prog).heights pc op → LeavesNothing (flat_code prog) pc op
   leaves pc (o.Go item) is = is
   leaves pc (o.GoIfZero item) is = is
+  leaves pc (o.GoUnless relation item) is = is
+  leaves pc (o.GoUnlessWith relation item number) is = is
   leaves pc (o.GoIfOne item) is = is
   leaves pc (o.GosubIfOne line item) is = is
   leaves pc (o.GoIfEqual item) is = is

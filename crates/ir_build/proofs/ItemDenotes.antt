@@ -58,9 +58,10 @@ use Rattle.bas_sem.specs.Loops.{opens, closing, until, next}
 use Rattle.bas_sem.specs.Operators.{of_one, of_two}
 use Rattle.bas_sem.specs.Data.{data_texts, next_number, restored, restore}
 use Rattle.bas_sem.specs.Places.{Row, Branch, else_place, on_else, after_end, branches_of, line_place}
-use Rattle.ir_build.specs.Code.{unary_code, read_op, store_op, expr_code, text_code, assignment_code, go_op, gosub_op, counter_of, step_code, for_code, nexts_code, next_code, flow_code, choice_op, choices_code, otherwise_op, print_code, vdu_code, output_code, reads_code, restore_op, statement_code, values_code, branches_code, case_code, head_code, item_code, or_jump, row_code, flat_code}
+use Rattle.ir_build.specs.Code.{unary_code, read_op, store_op, expr_code, text_code, assignment_code, go_op, gosub_op, counter_of, step_code, for_code, nexts_code, next_code, flow_code, choice_op, choices_code, otherwise_op, print_code, vdu_code, output_code, reads_code, restore_op, statement_code, values_code, branches_code, case_code, head_code, item_code, or_jump, row_ops, row_code, flat_code}
 use Rattle.ir_build.proofs.Bind.{bind_assoc, bind_same, bind_then}
 use Rattle.ir_build.proofs.Denote.{calls_at, carry, den}
+use Rattle.ir_build.proofs.FusedDenotes.{fused_den}
 
 module _ (prog : Prog) (level : Level) (next : ℕ) where
   -- operations of the program's code, before the next item
@@ -486,4 +487,6 @@ module _ (prog : Prog) (level : Level) (place : ℕ) where
   -- the code of a row does what its item does
   pub row_den : (row : Row) (s : State)
       → does prog level (place + 1) (row_code prog place row) nothing s ≡ execute_item prog (calls_at prog (flat_code prog) level) level place row.line row.item s
-  row_den row s = jump_den prog level (place + 1) (item_code prog place row.line row.item) s ∙ item_den row.line row.item s
+  row_den row s =
+      fused_den prog (flat_code prog) level (place + 1) (row_ops prog place row) nothing s
+      ∙ jump_den prog level (place + 1) (item_code prog place row.line row.item) s ∙ item_den row.line row.item s

@@ -164,6 +164,8 @@ module _ (prog : Prog) where
   reached_of : (op : Op) → Reaches prog op → IsReached (flat_code prog) op
   reached_of (o.Go item) up_to = subst (λ n. item ≤ n) (sym all_starts) up_to
   reached_of (o.GoIfZero item) up_to = subst (λ n. item ≤ n) (sym all_starts) up_to
+  reached_of (o.GoUnless relation item) up_to = subst (λ n. item ≤ n) (sym all_starts) up_to
+  reached_of (o.GoUnlessWith relation item number) up_to = subst (λ n. item ≤ n) (sym all_starts) up_to
   reached_of (o.GoIfOne item) up_to = subst (λ n. item ≤ n) (sym all_starts) up_to
   reached_of (o.GoIfEqual item) up_to = subst (λ n. item ≤ n) (sym all_starts) up_to
   reached_of (o.GosubIfOne line item) up_to = subst (λ n. item ≤ n) (sym all_starts) up_to

@@ -4,6 +4,9 @@ pub mod EndTables
 pub mod CaseSteps
 mod Bind
 pub mod Denote
+mod Fusing
+mod FusedDenotes
+mod FusedSteps
 pub mod ItemDenotes
 pub mod Joined
 pub mod Spots
@@ -20,6 +23,7 @@ mod Residents
 pub mod Coded
 mod Fits
 mod PendingBounds
+mod FusedFits
 mod FitCases
 mod FitExpressions
 mod FitStatements

@@ -42,7 +42,10 @@ use Rattle.bas_ir.specs.declared.op.Piece.TheVariants as pieces
 use Rattle.bas_store.specs.Cells.{Cell, Resident, Integer, integer_cell}
 use Rattle.bas_sem.specs.Data.{restored}
 use Rattle.bas_sem.specs.Places.{Row, Branch, Division, Divides, Ends, Neither, rows, rest_among, rest_of_line, after_else, else_place, found_else, on_else, depth_after, end_among, ends_search, end_of, after_end, division, with_division, branches_among, branches_of, line_among, line_place}
-use Rattle.ir_build.specs.Code.{unary_code, read_op, store_op, expr_code, text_code, assignment_code, go_op, gosub_op, counter_of, step_code, nexts_code, next_code, flow_code, choice_op, choices_code, otherwise_op, print_code, vdu_code, output_code, reads_code, restore_op, statement_code, values_code, branches_code, case_code, head_code, item_code, or_jump, row_code, codes_from, codes, joined}
+use Rattle.ir_build.specs.Code.{unary_code, read_op, store_op, expr_code, text_code, assignment_code, go_op, gosub_op, counter_of, step_code, nexts_code, next_code, flow_code, choice_op, choices_code, otherwise_op, print_code, vdu_code, output_code, reads_code, restore_op, statement_code, values_code, branches_code, case_code, head_code, item_code, or_jump, row_ops, row_code, codes_from, codes, joined}
+use Rattle.ir_build.specs.Fused.{fused_with, fused}
+use Rattle.ir_build.proofs.Fusing as f
+use Rattle.ir_build.proofs.Fusing.{Fuses, fuses}
 
 abbrev IsNot : {A : Type 0} → Option A → Type 0
 IsNot None = Unit {0}
@@ -144,6 +147,8 @@ module _ (prog : Prog) where
   abbrev pub Reaches : Op → Type 0
   Reaches (o.Go item) = item ≤ total
   Reaches (o.GoIfZero item) = item ≤ total
+  Reaches (o.GoUnless relation item) = item ≤ total
+  Reaches (o.GoUnlessWith relation item number) = item ≤ total
   Reaches (o.GoIfOne item) = item ≤ total
   Reaches (o.GoIfEqual item) = item ≤ total
   Reaches (o.GosubIfOne line item) = item ≤ total
@@ -360,11 +365,23 @@ module _ (prog : Prog) where
   jump_reach place [] few all = (omega (arith, few), tt)
   jump_reach place (op ∷ ops) few all = all
 
+  fuse_reach : (old new : List Op) → Fuses old new → AllReach old → AllReach new
+  fuse_reach old new (f.same ops) all = all
+  fuse_reach old new (f.constant value op line rest) all = all.1
+  fuse_reach old new (f.resident index op line rest) all = all.1
+  fuse_reach old new (f.change index op line number rest) all = (tt, all.1.1.1)
+  fuse_reach old new (f.comparison relation line item rest) all = all.1
+  fuse_reach old new (f.compared value relation item rest) all = all.1
+
+  fused_reach : (ops : List Op) → AllReach ops → AllReach (fused ops)
+  fused_reach [] all = all
+  fused_reach (op ∷ ops) all = fuse_reach (op ∷ fused ops) (fused_with op (fused ops)) (fuses op (fused ops)) (all.0, fused_reach ops all.1)
+
   codes_from_reach : (rs : List Row) (base : ℕ) → base + length rs ≡ total → AllReach (joined (codes_from prog base rs))
   codes_from_reach [] base is = tt
   codes_from_reach (r ∷ rs) base is =
       append_reach (row_code prog base r) (joined (codes_from prog (base + 1) rs))
-      (jump_reach base (item_code prog base r.line r.item) (omega (arith, is)) (item_reach r.line base r.item (omega (arith, is))))
+      (fused_reach (row_ops prog base r) (jump_reach base (item_code prog base r.line r.item) (omega (arith, is)) (item_reach r.line base r.item (omega (arith, is)))))
       (codes_from_reach rs (base + 1) (omega (arith, is)))
 
   codes_reach : AllReach (joined (codes prog))

@@ -5,7 +5,10 @@ use Rattle.bas_ast.specs.declared.program.Prog.{Prog}
 use Rattle.bas_ir.specs.declared.op.Op.{Op}
 use Rattle.bas_ir.specs.Places.{start_of, item_from, is_marked, front}
 use Rattle.bas_sem.specs.Places.{Row, rows, row_at}
-use Rattle.ir_build.specs.Code.{or_jump, item_code, row_code, codes_from, codes, joined, starts_from, start_at, flat_code}
+use Rattle.ir_build.specs.Fused.{fused_with, fused}
+use Rattle.ir_build.proofs.Fusing as f
+use Rattle.ir_build.proofs.Fusing.{Fuses, fuses}
+use Rattle.ir_build.specs.Code.{or_jump, item_code, row_ops, row_code, codes_from, codes, joined, starts_from, start_at, flat_code}
 use Rattle.ir_build.proofs.Joined.{AreFull, SpotIn, spot_in, start_front, start_item, starts_looked_up, IsItem}
 use Rattle.ir_build.proofs.Joined as joins
 
@@ -29,9 +32,22 @@ jump_full : (next : ℕ) (code : List Op) (rest : List (List Op)) → AreFull re
 jump_full next [] rest full = full
 jump_full next (op ∷ ops) rest full = full
 
+fuse_full : (old new : List Op) → Fuses old new → (rest : List (List Op)) → AreFull (old ∷ rest) → AreFull (new ∷ rest)
+fuse_full old new (f.same ops) rest full = full
+fuse_full old new (f.constant value op line ops) rest full = full
+fuse_full old new (f.resident index op line ops) rest full = full
+fuse_full old new (f.change index op line number ops) rest full = full
+fuse_full old new (f.comparison relation line item ops) rest full = full
+fuse_full old new (f.compared value relation item ops) rest full = full
+
+fused_full : (code : List Op) (rest : List (List Op)) → AreFull (code ∷ rest) → AreFull (fused code ∷ rest)
+fused_full [] rest full = full
+fused_full (op ∷ ops) rest full = fuse_full (op ∷ fused ops) (fused_with op (fused ops)) (fuses op (fused ops)) rest full
+
 codes_from-full : (prog : Prog) (rs : List Row) (base : ℕ) → AreFull (codes_from prog base rs)
 codes_from-full prog [] base = tt
-codes_from-full prog (r ∷ rs) base = jump_full (base + 1) (item_code prog base r.line r.item) _ (codes_from-full prog rs (base + 1))
+codes_from-full prog (r ∷ rs) base =
+    fused_full (row_ops prog base r) _ (jump_full (base + 1) (item_code prog base r.line r.item) _ (codes_from-full prog rs (base + 1)))
 
 pub codes_full : (prog : Prog) → AreFull (codes prog)
 unfolding codes

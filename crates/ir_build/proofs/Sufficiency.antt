@@ -1,5 +1,5 @@
 -- No operation of a program's code lacks a value, and nothing is pending after an item.
-use Rattle.std.proofs.Common.{◌≡◌, ℕ, ◌+◌, List, [], ◌∷◌, ◌++◌, Option, None, Some, refl, sym, subst, ◌∙◌, ap, append_assoc}
+use Rattle.std.proofs.Common.{zero, suc, ◌≡◌, ℕ, ◌+◌, List, [], ◌∷◌, ◌++◌, Option, None, Some, refl, sym, subst, ◌∙◌, ap, append_assoc}
 use Rattle.std.specs.Prelude.{Bool, true, false}
 use Rattle.bas_ast.specs.declared.expressions.Any.{Any}
 use Rattle.bas_ast.specs.declared.expressions.Any.TheVariants as any
@@ -43,7 +43,11 @@ use Rattle.bas_ir.specs.Heights.{Suffices, one_more, empty_height, height_after}
 use Rattle.bas_store.specs.Cells.{Cell, Resident, Integer, integer_cell}
 use Rattle.bas_sem.specs.Data.{restored}
 use Rattle.bas_sem.specs.Places.{Row, Branch, line_place, else_place, on_else, after_end, branches_of}
-use Rattle.ir_build.specs.Code.{unary_code, read_op, store_op, expr_code, text_code, assignment_code, go_op, gosub_op, counter_of, step_code, nexts_code, next_code, flow_code, choice_op, choices_code, otherwise_op, print_code, vdu_code, output_code, reads_code, restore_op, statement_code, values_code, branches_code, case_code, head_code, item_code, or_jump, row_code}
+use Rattle.ir_build.specs.Code.{unary_code, read_op, store_op, expr_code, text_code, assignment_code, go_op, gosub_op, counter_of, step_code, nexts_code, next_code, flow_code, choice_op, choices_code, otherwise_op, print_code, vdu_code, output_code, reads_code, restore_op, statement_code, values_code, branches_code, case_code, head_code, item_code, or_jump, row_ops, row_code}
+use Rattle.ir_build.specs.Fused.{fused_with, fused}
+use Rattle.ir_build.proofs.Fusing as f
+use Rattle.ir_build.proofs.Fusing.{Fuses, fuses}
+use Rattle.bas_ast.specs.declared.expressions.Comparison.{Comparison}
 
 -- the operations find what they take, after this height
 abbrev pub Enough : List Op → Height → Type 0
@@ -53,6 +57,8 @@ Enough ops h = Suffices [] ops (Some h)
 abbrev pub LeavesAt : Op → Height → Type 0
 LeavesAt (o.Go item) h = h ≡ empty_height
 LeavesAt (o.GoIfZero item) h = height_after [] (o.GoIfZero item) h ≡ Some empty_height
+LeavesAt (o.GoUnless relation item) h = height_after [] (o.GoUnless relation item) h ≡ Some empty_height
+LeavesAt (o.GoUnlessWith relation item number) h = height_after [] (o.GoUnlessWith relation item number) h ≡ Some empty_height
 LeavesAt (o.GoIfOne item) h = height_after [] (o.GoIfOne item) h ≡ Some (one_more empty_height)
 LeavesAt (o.GosubIfOne line item) h = height_after [] (o.GosubIfOne line item) h ≡ Some (one_more empty_height)
 LeavesAt (o.GoIfEqual item) h = height_after [] (o.GoIfEqual item) h ≡ Some (one_more empty_height)
@@ -280,9 +286,33 @@ jump_balances : (next : ℕ) (ops : List Op) → Whole ops → Whole (or_jump ne
 jump_balances next [] balances = (refl, balances)
 jump_balances next (op ∷ ops) balances = balances
 
+-- fused operations
+comparison_balances : (relation : Comparison) (line item : ℕ) (rest : List Op) (numbers texts : ℕ)
+    → From (o.Binary (operators.Compare relation) line ∷ o.GoIfZero item ∷ rest) (record { numbers = numbers; texts = texts })
+    → From (o.GoUnless relation item ∷ rest) (record { numbers = numbers; texts = texts })
+comparison_balances relation line item rest zero texts balances = absurd balances.1
+comparison_balances relation line item rest (suc zero) texts balances = absurd balances.1
+comparison_balances relation line item rest (suc (suc numbers)) texts balances = balances.1
+
+fuse_balances : (old new : List Op) → Fuses old new → (h : Height) → From old h → From new h
+fuse_balances old new (f.same ops) h balances = balances
+fuse_balances old new (f.constant value op line rest) h balances = balances.1
+fuse_balances old new (f.resident index op line rest) h balances = balances.1
+fuse_balances old new (f.change index op line number rest) h balances = (tt, balances.1.1.1)
+fuse_balances old new (f.comparison relation line item rest) h balances = comparison_balances relation line item rest h.numbers h.texts balances
+fuse_balances old new (f.compared value relation item rest) h balances = balances.1
+
+fused_balances : (ops : List Op) (h : Option Height) → Balances ops h → Balances (fused ops) h
+fused_balances ops None balances = absurd balances
+fused_balances [] (Some h) balances = balances
+fused_balances (op ∷ ops) (Some h) balances =
+    fuse_balances (op ∷ fused ops) (fused_with op (fused ops)) (fuses op (fused ops)) h (balances.0, fused_balances ops (height_after [] op h) balances.1)
+
 -- the code of an item
 pub row_balances : (prog : Prog) (place : ℕ) (row : Row) → Balances (row_code prog place row) (Some empty_height)
-row_balances prog place row = jump_balances (place + 1) (item_code prog place row.line row.item) (item_balances prog row.line place row.item)
+row_balances prog place row =
+    fused_balances (row_ops prog place row) (Some empty_height)
+    (jump_balances (place + 1) (item_code prog place row.line row.item) (item_balances prog row.line place row.item))
 
 pub row_suffices : (prog : Prog) (place : ℕ) (row : Row) → Enough (row_code prog place row) empty_height
 row_suffices prog place row = balance_suffices (row_code prog place row) (Some empty_height) (row_balances prog place row)

@@ -24,6 +24,9 @@ use Rattle.bas_ir.specs.declared.op.Piece.TheVariants as pieces
 use Rattle.bas_sem.specs.Places.{line_place, else_place}
 use Rattle.bas_store.specs.Cells.{Cell, Resident, Integer, integer_cell}
 use Rattle.ir_build.specs.Code.{read_op, store_op, expr_code, vdu_code, go_op, statement_code, item_code, or_jump, row_code}
+use Rattle.ir_build.specs.Fused.{fused_with, fused}
+use Rattle.ir_build.proofs.Fusing as f
+use Rattle.ir_build.proofs.Fusing.{Fuses, fuses}
 use Rattle.ir_build.specs.Weight.{is_plain, is_plain_operator, where_true, and_one, and_both, plain_weight, goto_weight, statement_weight, item_weight, SimpleItemsLight}
 
 -- the operations are plain
@@ -61,6 +64,36 @@ binary_light : (plain : Bool) (op : BinaryOp) (line : ℕ) (v w : Option ℕ) (a
     → Light (where_true plain (and_both v w)) (a ++ (b ++ o.Binary op line ∷ []))
 binary_light true op line v w a b is la lb = both_light v w a b (o.Binary op line) la lb (sym is)
 binary_light false op line v w a b is la lb = tt
+
+fuse_short : (old new : List Op) → Fuses old new → length new ≤ length old
+fuse_short old new (f.same ops) = omega arith
+fuse_short old new (f.constant value op line rest) = omega arith
+fuse_short old new (f.resident index op line rest) = omega arith
+fuse_short old new (f.change index op line number rest) = omega arith
+fuse_short old new (f.comparison relation line item rest) = omega arith
+fuse_short old new (f.compared value relation item rest) = omega arith
+
+fused_short : (ops : List Op) → length (fused ops) ≤ length ops
+fused_short [] = omega arith
+fused_short (op ∷ ops) = omega (arith, fuse_short (op ∷ fused ops) (fused_with op (fused ops)) (fuses op (fused ops)), fused_short ops)
+
+fuse_plain : (old new : List Op) → Fuses old new → ArePlain old → ArePlain new
+fuse_plain old new (f.same ops) plain = plain
+fuse_plain old new (f.constant value op line rest) plain = plain
+fuse_plain old new (f.resident index op line rest) plain = plain
+fuse_plain old new (f.change index op line number rest) plain = plain
+fuse_plain old new (f.comparison relation line item rest) plain = plain
+fuse_plain old new (f.compared value relation item rest) plain = plain
+
+and_more : (b x y : Bool) → IsTrue (b && x) → (IsTrue x → IsTrue y) → IsTrue (b && y)
+and_more true x y both more = more both
+and_more false x y both more = both
+
+fused_plain : (ops : List Op) → ArePlain ops → ArePlain (fused ops)
+fused_plain [] plain = plain
+fused_plain (op ∷ ops) plain =
+    fuse_plain (op ∷ fused ops) (fused_with op (fused ops)) (fuses op (fused ops))
+    (and_more (is_plain op) (list_all is_plain ops) (list_all is_plain (fused ops)) plain (fused_plain ops))
 
 module _ (prog : Prog) (line : ℕ) where
   read_light : (cell : Cell) → Light (Some 1) (read_op line cell ∷ [])
@@ -121,6 +154,11 @@ module _ (prog : Prog) (line : ℕ) where
   jump_light place (Some n) [] light = (omega arith, refl)
   jump_light place (Some n) (op ∷ ops) light = light
 
+  -- fused operations are no more, and plain where the others are
+  fused_light : (w : Option ℕ) (ops : List Op) → LightItem w ops → LightItem w (fused ops)
+  fused_light None ops light = tt
+  fused_light (Some n) ops light = (omega (arith, light.0, fused_short ops), fused_plain ops light.1)
+
   item_light : (place : ℕ) (i : Item) → LightItem (item_weight prog i) (or_jump (place + 1) (item_code prog place line i))
   item_light place (item.Stmt s) = jump_light place (statement_weight prog s) (statement_code prog place line s) (statement_light place s)
   item_light place (item.If x) =
@@ -132,4 +170,5 @@ module _ (prog : Prog) (line : ℕ) where
   item_light place _ = tt
 
 pub simple_items_light : (prog : Prog) → SimpleItemsLight prog
-simple_items_light prog place line i weight is = subst (λ w. LightItem prog line w (row_code prog place (record { line = line; item = i }))) is (item_light prog line place i)
+simple_items_light prog place line i weight is = subst (λ w. LightItem prog line w (row_code prog place (record { line = line; item = i }))) is
+    (fused_light prog line (item_weight prog i) (or_jump (place + 1) (item_code prog place line i)) (item_light prog line place i))

@@ -37,15 +37,16 @@ use Rattle.bas_ast.specs.Structures.{OpensWhile, OpensIf, DividesIf, OpensCase, 
 use Rattle.bas_ir.specs.declared.ir.Height.{Height}
 use Rattle.bas_ir.specs.declared.ir.Ir.{Ir}
 use Rattle.bas_ir.specs.declared.ir.LineStart.{LineStart}
-use Rattle.bas_ir.specs.declared.op.Counter.{Counter}
-use Rattle.bas_ir.specs.declared.op.Counter.TheVariants as counters
 use Rattle.bas_ir.specs.declared.op.Mark.TheVariants as marks
 use Rattle.bas_ir.specs.declared.op.Op.{Op}
 use Rattle.bas_ir.specs.declared.op.Op.TheVariants as o
 use Rattle.bas_ir.specs.declared.op.Piece.TheVariants as pieces
 use Rattle.bas_ir.specs.Heights.{height_after, empty_height}
+use Rattle.bas_store.specs.declared.cell.IntegerCell.{IntegerCell}
+use Rattle.bas_store.specs.declared.cell.IntegerCell.TheVariants as cells
 use Rattle.bas_store.specs.Cells.{Cell, Resident, Integer, integer_cell}
 use Rattle.bas_value.specs.Errors.{no_such_line, on_range, stopped}
+use Rattle.ir_build.specs.Fused.{fused}
 use Rattle.bas_sem.specs.Data.{data_texts, restored}
 use Rattle.bas_sem.specs.Places.{Row, Branch, rows, next_line, else_place, on_else, after_end, branches_of, line_place}
 
@@ -106,9 +107,9 @@ gosub_op None line = o.Raise no_such_line line
 gosub_op (Some place) line = o.Gosub line place
 
 -- the variable of a FOR
-abbrev pub counter_of : Cell → Counter
-counter_of (Resident index) = counters.Resident index
-counter_of (Integer name) = counters.Integer name
+abbrev pub counter_of : Cell → IntegerCell
+counter_of (Resident index) = cells.Resident index
+counter_of (Integer name) = cells.Named name
 
 -- the step of FOR, 1 where it has none
 abbrev pub step_code : Prog → ℕ → Option NumExpr → List Op
@@ -263,9 +264,13 @@ abbrev pub or_jump : ℕ → List Op → List Op
 or_jump next [] = o.Go next ∷ []
 or_jump next (op ∷ ops) = op ∷ ops
 
--- the code of an item at a place, which has at least one operation
+-- the operations of an item at a place, of which there is at least one
+abbrev pub row_ops : Prog → ℕ → Row → List Op
+row_ops prog place row = or_jump (place + 1) (item_code prog place row.line row.item)
+
+-- The code of an item at a place: its operations, fused where one can do what several do.
 abbrev pub row_code : Prog → ℕ → Row → List Op
-row_code prog place row = or_jump (place + 1) (item_code prog place row.line row.item)
+row_code prog place row = fused (row_ops prog place row)
 
 -- the code of rows, of which the first is at a place
 abbrev pub codes_from : Prog → ℕ → List Row → List (List Op)

@@ -1,3 +1,4 @@
+pub mod Fused
 pub mod Code
 pub mod Weight
 pub mod Tables

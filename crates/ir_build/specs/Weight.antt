@@ -91,19 +91,24 @@ item_weight prog (item.Data n) = Some 0
 item_weight prog item.Remark = Some 0
 item_weight prog _ = None
 
--- A plain operation pushes or reads an integer, applies a plain operator or sign, stores an integer, jumps, jumps on an integer,
--- writes one byte, or ends.
+-- A plain operation pushes or reads an integer, applies a plain operator or sign, also to an operand that it has itself, changes an
+-- integer by a plain operator, stores an integer, jumps, jumps on an integer or a comparison, writes one byte, or ends.
 abbrev pub is_plain : Op → Bool
 is_plain (o.Push value) = true
 is_plain (o.PushResident index) = true
 is_plain (o.PushInteger name line) = true
 is_plain (o.Unary op line) = is_plain_sign op
 is_plain (o.Binary op line) = is_plain_operator op
+is_plain (o.BinaryWith op line number) = is_plain_operator op
+is_plain (o.BinaryWithResident op resident line) = is_plain_operator op
+is_plain (o.ChangeResident op resident line number) = is_plain_operator op
 is_plain (o.StoreResident index) = true
 is_plain (o.StoreInteger name) = true
 is_plain (o.Write pieces.Byte) = true
 is_plain (o.Go item) = true
 is_plain (o.GoIfZero item) = true
+is_plain (o.GoUnless relation item) = true
+is_plain (o.GoUnlessWith relation item number) = true
 is_plain o.End = true
 is_plain _ = false
 

@@ -8,7 +8,8 @@ ghost use Rattle.ir_build.specs.Code as spec;
 
 use crate::ops::put;
 use bas_ast::{NumExpr, Prog, StrExpr, UnaryOp, Variable};
-use bas_ir::{Counter, Op};
+use bas_ir::Op;
+use bas_store::IntegerCell;
 use bv_base::NoMemory;
 use sqlite_items::Items;
 
@@ -44,12 +45,12 @@ pub fn read_op(prog: &Prog, line: u16, name: u16) -> Op
 }
 
 /// The variable of a FOR.
-pub fn counter(prog: &Prog, name: u16) -> Counter
+pub fn counter(prog: &Prog, name: u16) -> IntegerCell
     ensures { result ≡ spec.counter_of (cells.integer_cell prog.now.names name) }
 {
     match resident(prog, name) {
-        Some(index) => Counter::Resident(index),
-        None => Counter::Integer(name),
+        Some(index) => IntegerCell::Resident(index),
+        None => IntegerCell::Named(name),
     }
 }
 

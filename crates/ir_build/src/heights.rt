@@ -104,21 +104,43 @@ fn height_after(op: Op, height: Height) -> Result<Option<Height>, NoMemory>
         | Op::PushInteger { .. }
         | Op::ReadNumber { .. } => Ok(Some(one_more(height)?)),
         Op::PushText(_) => Ok(Some(one_text_more(height)?)),
-        Op::Unary { .. } | Op::GoIfOne(_) | Op::GosubIfOne { .. } | Op::RaiseIfOne { .. } => {
-            after_unary(height)
-        }
+        Op::Unary { .. }
+        | Op::BinaryWith { .. }
+        | Op::BinaryWithResident { .. }
+        | Op::GoIfOne(_)
+        | Op::GosubIfOne { .. }
+        | Op::RaiseIfOne { .. } => after_unary(height),
         Op::Binary { .. } | Op::GoIfEqual(_) => after_binary(height),
-        Op::OpenFor { .. } => Ok(after_two(height)),
+        Op::GoUnless { .. } | Op::OpenFor { .. } => Ok(after_two(height)),
         Op::StoreResident(_)
         | Op::StoreInteger(_)
         | Op::WriteNumber { .. }
         | Op::Write(_)
         | Op::GoIfZero(_)
+        | Op::GoUnlessWith { .. }
         | Op::Discard
         | Op::Until { .. }
         | Op::LeaveNumber => Ok(one_less(height)),
         Op::WriteText | Op::LeaveText => Ok(one_text_less(height)),
-        _ => Ok(Some(height)),
+        Op::ChangeResident { .. }
+        | Op::WriteMark(_)
+        | Op::Go(_)
+        | Op::OpenRepeat { .. }
+        | Op::OpenWhile { .. }
+        | Op::Gosub { .. }
+        | Op::Next { .. }
+        | Op::NextAny { .. }
+        | Op::EndWhile { .. }
+        | Op::Return { .. }
+        | Op::Restore(_)
+        | Op::Raise { .. }
+        | Op::End
+        | Op::Enter { .. }
+        | Op::LeaveProcedure { .. }
+        | Op::NeedFunction { .. }
+        | Op::HandleAll(_)
+        | Op::HandleHere(_)
+        | Op::HandleNone => Ok(Some(height)),
     }
 }
 

@@ -8,6 +8,7 @@ mod data;
 mod ends;
 mod expressions;
 mod flow;
+mod fused;
 mod heights;
 mod laws;
 mod numbers;

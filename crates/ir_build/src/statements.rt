@@ -12,6 +12,7 @@ use crate::cases::push_case;
 use crate::data::{push_reads, restore_op};
 use crate::expressions::{push_expr, read_op, store_op};
 use crate::flow::{push_flow, push_on};
+use crate::fused::fused;
 use crate::numbers::plus;
 use crate::ops::put;
 use crate::output::push_output;
@@ -184,5 +185,5 @@ pub fn row_code(
     if ops.is_empty() {
         put(&mut ops, Op::Go(plus(place, 1)?))?;
     }
-    Ok(ops)
+    fused(alloc, ops.as_slice())
 }

@@ -75,10 +75,10 @@ fn two_lines(rt: HostRuntime) -> Result<(), Fail> {
         Op::PushResident(0),
         Op::GoIfZero(3),
         Op::Push(1),
-        Op::Push(2),
-        Op::Binary {
+        Op::BinaryWith {
             op: BinaryOp::Add,
             line: 10,
+            number: 2,
         },
         Op::WriteNumber {
             padded: true,
@@ -94,18 +94,18 @@ fn two_lines(rt: HostRuntime) -> Result<(), Fail> {
         Op::Go(6),
     ];
     assert!(rt; ir.ops.as_slice() == ops.as_slice());
-    let starts = [0, 2, 7, 8, 9, 10];
+    let starts = [0, 2, 6, 7, 8, 9];
     assert!(rt; ir.starts.as_slice() == starts.as_slice());
     let line_starts = [
         LineStart { number: 10, op: 0 },
-        LineStart { number: 20, op: 9 },
+        LineStart { number: 20, op: 8 },
     ];
     assert!(rt; ir.line_starts.as_slice() == line_starts.as_slice());
     for place in 0..ops.len() {
         let is_start = starts.contains(&(place as u32));
         assert!(rt; ir.marks.get(place) == Some(&is_start), "at {place}");
     }
-    let numbers = [0, 1, 0, 1, 2, 1, 0, 0, 0, 0, 0];
+    let numbers = [0, 1, 0, 1, 1, 0, 0, 0, 0, 0];
     for place in 0..numbers.len() {
         let height = Height {
             numbers: numbers[place],

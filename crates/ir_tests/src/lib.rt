@@ -8,6 +8,7 @@ mod blocks;
 mod code;
 #[cfg(test)]
 mod data;
+mod fused;
 #[cfg(test)]
 mod loops;
 #[cfg(test)]

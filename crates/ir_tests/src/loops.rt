@@ -4,7 +4,8 @@ ghost use Rattle.std.specs.Prelude.{◌≡◌, [], IfOk};
 
 use crate::parts::{COUNT, flow, letter, line, names};
 use bas_ast::{Flow, Item, Jump, NumExpr, Prog};
-use bas_ir::{Counter, Height, LineStart, Op};
+use bas_ir::{Height, LineStart, Op};
+use bas_store::IntegerCell;
 use bv_base::NoMemory;
 use ir_build::build;
 use sqlite_items::Items;
@@ -74,7 +75,7 @@ fn program(alloc: Global) -> Result<Prog, NoMemory>
 #[test]
 fn four_lines(rt: HostRuntime) -> Result<(), Fail> {
     let ir = build(rt.alloc(), &program(rt.alloc())?)?;
-    let count = Counter::Integer(COUNT);
+    let count = IntegerCell::Named(COUNT);
     let ops = [
         Op::Push(1),
         Op::StoreInteger(COUNT),
@@ -89,7 +90,7 @@ fn four_lines(rt: HostRuntime) -> Result<(), Fail> {
             line: 10,
         },
         Op::Next {
-            counter: Counter::Resident(0),
+            counter: IntegerCell::Resident(0),
             line: 10,
         },
         Op::PushResident(0),
