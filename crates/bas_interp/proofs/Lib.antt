@@ -7,3 +7,4 @@ pub mod Steps
 pub mod Placed
 pub mod SoFar
 pub mod Ends
+pub mod Comparisons

@@ -1,7 +1,6 @@
 //! Loops and GOSUBs: what opens them, and what their closing words do.
 ghost use Rattle.std.specs.Prelude.{◌≡◌, ◌<◌, ◌+◌, ◌∷◌, length, nat_lt, pos};
 ghost use Rattle.std.specs.Ordering.{int_eq};
-ghost use Rattle.bas_ir.specs.Effects as effects;
 ghost use Rattle.bas_ir.specs.declared.ir.Ir.{Ir as Code};
 ghost use Rattle.bas_ir.specs.declared.op.Op.TheVariants.{OpenFor, Until, EndWhile, Return};
 ghost use Rattle.bas_sem.specs.Loops.{goes_round};
@@ -14,7 +13,6 @@ ghost use Rattle.bas_interp.specs.Loops.{answer_opened, memory_opened, answer_se
 
 use crate::act::Next;
 use crate::memory::{Memory, at_or, store_at};
-use bas_ir::Counter;
 use bas_store::{
     ClosingWord, FoundEntry, IntegerCell, NO_REPEAT, NO_ROOM, NO_SUBROUTINE, NO_WHILE, OpenEntry,
     OpeningWord,
@@ -22,16 +20,6 @@ use bas_store::{
 
 /// The depth of the outermost level, where all code runs.
 const OUTERMOST: u16 = 0;
-
-/// The cell of a FOR's variable.
-fn cell_of(counter: Counter) -> IntegerCell
-    ensures { cell_of result ≡ effects.cell_of counter }
-{
-    match counter {
-        Counter::Resident(index) => IntegerCell::Resident(index),
-        Counter::Integer(name) => IntegerCell::Named(name),
-    }
-}
 
 /// The number in a cell, 0 where it was never made.
 fn value_in(memory: &Memory, cell: IntegerCell) -> i32
@@ -88,7 +76,7 @@ pub(crate) fn open(
 }
 
 /// FOR, once its start is stored.
-pub(crate) fn open_for(memory: &mut Memory, counter: Counter, after: u32, line: u16) -> Next
+pub(crate) fn open_for(memory: &mut Memory, counter: IntegerCell, after: u32, line: u16) -> Next
     requires { IsReady memory.old }
     ensures right { (ir : Code) → IsRight ir (OpenFor counter line) after result memory.old memory.new }
     ensures room { KeepsRoom memory.old memory.new }
@@ -100,7 +88,7 @@ pub(crate) fn open_for(memory: &mut Memory, counter: Counter, after: u32, line: 
         return Next::Ends;
     };
     let opening = OpeningWord::For {
-        cell: cell_of(counter),
+        cell: counter,
         limit,
         step,
     };
@@ -160,12 +148,12 @@ pub(crate) fn next(memory: &mut Memory, word: ClosingWord, line: u16) -> Next
 }
 
 /// NEXT of a variable.
-pub(crate) fn next_of(memory: &mut Memory, counter: Counter, line: u16) -> Next
+pub(crate) fn next_of(memory: &mut Memory, counter: IntegerCell, line: u16) -> Next
     requires { IsReady memory.old }
-    ensures right { IsNext (NextOf (effects.cell_of counter)) line result memory.old memory.new }
+    ensures right { IsNext (NextOf (cell_of counter)) line result memory.old memory.new }
     ensures room { KeepsRoom memory.old memory.new }
 {
-    next(memory, ClosingWord::NextOf(cell_of(counter)), line)
+    next(memory, ClosingWord::NextOf(counter), line)
 }
 
 /// Whether a number is 0.

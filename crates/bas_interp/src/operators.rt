@@ -1,5 +1,6 @@
 //! The operators of the language.
-ghost use Rattle.std.specs.Prelude.{◌≡◌};
+ghost use Rattle.std.specs.Prelude.{◌≡◌, pos};
+ghost use Rattle.std.specs.Ordering.{int_eq};
 ghost use Rattle.bas_sem.specs.Operators.{of_one, of_two, sign, comparison};
 ghost use Rattle.bv_num.specs.Operation.{exact};
 
@@ -45,6 +46,22 @@ fn compared(op: Comparison, x: i32, y: i32) -> i32
         Comparison::Greater => bv_num::greater(x, y),
         Comparison::LessOrEqual => bv_num::less_or_equal(x, y),
         Comparison::GreaterOrEqual => bv_num::greater_or_equal(x, y),
+    }
+}
+
+/// Whether two numbers do not compare so.
+#[tactic(auto, using(crate::proofs::Comparisons::is_zero_not))]
+#[inline(always)]
+pub(crate) fn fails(relation: Comparison, x: i32, y: i32) -> bool
+    ensures { result ≡ int_eq (exact (comparison relation) x y) (pos 0) }
+{
+    match relation {
+        Comparison::Equal => x != y,
+        Comparison::NotEqual => x == y,
+        Comparison::Less => x >= y,
+        Comparison::Greater => x <= y,
+        Comparison::LessOrEqual => x > y,
+        Comparison::GreaterOrEqual => x < y,
     }
 }
 
