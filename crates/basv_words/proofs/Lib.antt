@@ -1,3 +1,11 @@
-mod Prefixes
 mod Numerals
+mod Asked
+mod Slots
+mod Walks
+mod Steps
+mod Due
+mod Agrees
+mod AllWords
+mod Gathered
 mod Fronts
+mod Commands

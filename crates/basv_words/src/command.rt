@@ -1,10 +1,13 @@
 //! What the words of the command line ask for.
-ghost use Rattle.std.specs.Prelude.{◌≡◌, [], ◌∷◌, Some, map, string_bytes};
+ghost use Rattle.std.specs.Prelude.{◌≡◌, IfOk, true, Some, map, string_bytes};
 ghost use Rattle.std.specs.Option.{option_map};
-ghost use Rattle.basv_words.specs.Command.{number, bound_of, command_of, by_name, plain, one_name, two_names, running, options_with};
-ghost use Rattle.basv_words.specs.Meant.{meant, seen, chosen, list_of, listed};
+ghost use Rattle.basv_words.specs.Command.{number, bound_of, command_of, options_with};
+ghost use Rattle.basv_words.specs.Taken.{by_kind, is_taken, has_target, has_options};
+ghost use Rattle.basv_words.specs.Meant.{meant, seen, chosen, list_of};
 
-use crate::given::{Given, Names, read_words};
+use crate::form::Kind;
+use crate::reader::{Given, read_words};
+use std::alloc::{AllocError, Global};
 
 /// The bound of a run for which none is asked.
 const GREATEST_BOUND: u64 = u64::MAX;
@@ -83,44 +86,46 @@ impl<'a> Given<'a> {
             arena: self.arena,
         })
     }
+}
 
-    /// The names, where there is no option, and else none.
-    fn plain(self) -> Names<'a>
-        ensures { listed result ≡ plain (seen self.entry) }
-    {
-        if self.input.is_some() || self.steps.is_some() || self.arena.is_some() {
-            return Names::Zero;
-        }
-        self.names
+/// The command of a kind, with what the words give it.
+fn command_given<'a>(kind: Kind, given: Given<'a>) -> Option<Command<'a>>
+    ensures { is_taken (has_target kind) (has_options kind) (seen given.entry) ≡ true → option_map meant result ≡ by_kind kind (seen given.entry) }
+{
+    let source = given.source;
+    match kind {
+        Kind::List => Some(Command::List { file: source }),
+        Kind::Compile => Some(Command::Compile {
+            file: source,
+            image: given.target?,
+        }),
+        Kind::Crunch => Some(Command::Crunch {
+            text: source,
+            file: given.target?,
+        }),
+        Kind::Run => Some(Command::Run {
+            image: source,
+            options: given.options()?,
+        }),
+        Kind::Interpret => Some(Command::Interpret {
+            file: source,
+            options: given.options()?,
+        }),
     }
 }
 
-/// The command of a name, with what the words after it give.
-fn command_named<'a>(name: &str, given: Given<'a>) -> Option<Command<'a>>
-    ensures { option_map meant result ≡ by_name name.now (Some (seen given.entry)) }
+/// The command that the words are, if they are one. It fails for want of memory alone.
+pub fn read_command(alloc: Global, words: &[String]) -> Result<Option<Command<'_>>, AllocError>
+    ensures { IfOk result (λ command. option_map meant command ≡ command_of (map string_bytes words.entry.now)) }
 {
-    match (name, given.plain(), given.names) {
-        ("list", Names::One(file), _) => Some(Command::List { file }),
-        ("compile", Names::Two(file, image), _) => Some(Command::Compile { file, image }),
-        ("crunch", Names::Two(text, file), _) => Some(Command::Crunch { text, file }),
-        ("run", _, Names::One(image)) => Some(Command::Run {
-            image,
-            options: given.options()?,
-        }),
-        ("interp", _, Names::One(file)) => Some(Command::Interpret {
-            file,
-            options: given.options()?,
-        }),
-        _ => None,
-    }
-}
-
-/// The command that the words are, if they are one.
-pub fn read_command(words: &[String]) -> Option<Command<'_>>
-    ensures { option_map meant result ≡ command_of (map string_bytes words.now) }
-{
-    let [name, rest @ ..] = words else {
-        return None;
+    let [name, ..] = words else {
+        return Ok(None);
     };
-    command_named(name.as_str(), read_words(rest)?)
+    let Some(kind) = Kind::named(name.as_str()) else {
+        return Ok(None);
+    };
+    match read_words(alloc, kind, words)? {
+        Some(given) => Ok(command_given(kind, given)),
+        None => Ok(None),
+    }
 }
