@@ -3,11 +3,12 @@ use Rattle.std.proofs.Common.{◌≡◌, ℕ, zero, suc, ◌+◌, ◌-◌, ◌*�
 use Rattle.std.proofs.lemmas.Int.{ints}
 use Rattle.std.specs.Int.Signed.{lt_z}
 use Rattle.std.specs.Ordering.{int_eq}
-use Rattle.bas_ir.specs.declared.op.Counter.{Counter}
-use Rattle.bas_ir.specs.declared.op.Counter.TheVariants as counters
+use Rattle.bas_store.specs.Entries.{cell_of}
+use Rattle.bas_store.specs.declared.cell.IntegerCell.{IntegerCell}
+use Rattle.bas_store.specs.declared.cell.IntegerCell.TheVariants as cells
 use Rattle.bas_ir.specs.declared.op.Op.TheVariants as o
 use Rattle.bas_ir.specs.Coded.{HasCounterWidth}
-use Rattle.bas_ir.specs.Effects.{Effect, Falls, Goes, Opens, counted_down, go_if_one, go_if_equal, gosub_if_one, raise_if_one, cell_of, round_or_on}
+use Rattle.bas_ir.specs.Effects.{Effect, Falls, Goes, Opens, counted_down, go_if_one, go_if_equal, gosub_if_one, raise_if_one, round_or_on}
 use Rattle.bas_ir.specs.Places.{Pending, nothing, pushed}
 use Rattle.bas_sem.specs.Actions.{raise}
 use Rattle.bas_sem.specs.Calls.{GoOn}
@@ -159,13 +160,13 @@ reopened image st e t c =
     }
 
 -- a variable's address is that of its cell, and a word
-pub address-is : (counter : Counter) → variable_address counter ≡ cell_word (cell_of counter)
-address-is (counters.Resident index) = refl
-address-is (counters.Integer name) = refl
+pub address-is : (counter : IntegerCell) → variable_address counter ≡ cell_word (cell_of counter)
+address-is (cells.Resident index) = refl
+address-is (cells.Named name) = refl
 
-pub address-low : (counter : Counter) → HasCounterWidth counter → variable_address counter < 2 ^ 32
-address-low (counters.Resident index) w = omega (arith, w)
-address-low (counters.Integer name) w = omega (arith, w)
+pub address-low : (counter : IntegerCell) → HasCounterWidth counter → variable_address counter < 2 ^ 32
+address-low (cells.Resident index) w = omega (arith, w)
+address-low (cells.Named name) w = omega (arith, w)
 
 module _ {image : Site} {st : State} {s : Core} (site : IsSite image) (named : Named) (back : named.back ≡ image.branches + 4 * image.next) where
   -- ---- ON
@@ -254,7 +255,7 @@ module _ {image : Site} {st : State} {s : Core} (site : IsSite image) (named : N
       (open_then Gosub line named.back fits (record { holds = f.holds; numbers = f.numbers; texts = f.texts }) (omega arith) refl (back_small image named site back) back tt
       (λ over t a. opened_full line Gosub (Some item) nothing over a) (λ fine t h. leave_then (opened_goes line Gosub item nothing fine h)))
 
-  pub open_for_owes : (p : Pending) (counter : Counter) (line : ℕ) (limit step : ℤ) → line < 65536 → HasCounterWidth counter → IsShort p → StandsFor image (pushed step (pushed limit p)) st s
+  pub open_for_owes : (p : Pending) (counter : IntegerCell) (line : ℕ) (limit step : ℤ) → line < 65536 → HasCounterWidth counter → IsShort p → StandsFor image (pushed step (pushed limit p)) st s
       → Owes CodeAsks CodeDoes (op_code named (o.OpenFor counter line)) (Arrives image (Value (Opens line (For (cell_of counter) limit step) None p) st)) s
   open_for_owes p counter line limit step fits width short f =
       let r = s.regs 12 in

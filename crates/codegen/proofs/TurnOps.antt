@@ -2,10 +2,11 @@
 use Rattle.std.proofs.Common.{◌≡◌, ℕ, suc, ◌+◌, ◌*◌, ◌<◌, ◌≤◌, ◌==◌, inl, inr, nat_le, if◌then◌else◌, Bool, true, false, ℤ, pos, ◌+ℤ◌, List, ◌∷◌, length, Option, None, Some, Result, Ok, Err, slice_index_or, refl, sym, ap, subst, ◌∙◌, arith, eqb-true}
 use Rattle.std.proofs.Math.Path.{transport}
 use Rattle.std.proofs.lemmas.Bool.{eqb-false, not-true, not-false, le-leb, lt-leb}
-use Rattle.bas_ir.specs.declared.op.Counter.{Counter}
+use Rattle.bas_store.specs.Entries.{cell_of}
+use Rattle.bas_store.specs.declared.cell.IntegerCell.{IntegerCell}
 use Rattle.bas_ir.specs.declared.op.Op.TheVariants as o
 use Rattle.bas_ir.specs.Coded.{HasCounterWidth}
-use Rattle.bas_ir.specs.Effects.{Effect, cell_of, round_or_on}
+use Rattle.bas_ir.specs.Effects.{Effect, round_or_on}
 use Rattle.bas_ir.specs.Places.{nothing}
 use Rattle.bas_sem.specs.Actions.{or_raise, assign}
 use Rattle.bas_sem.specs.Course.{Course, Value, on_value, ◌>>◌, give}
@@ -316,7 +317,7 @@ module _ {image : Site} {st : State} {s : Core} (site : IsSite image) (named : N
   pub next_any_owes : Owes CodeAsks CodeDoes (op_code named (o.NextAny line)) (Arrives image (Nexts st line (store.closing_error 0 AnyNext st.stored.opened) (store.nearest 0 AnyNext st.stored.opened))) s
   next_any_owes = set_then 0 refl refl (turn_owes site are line fits (record { holds = f.holds; numbers = f.numbers; texts = f.texts }) AnyNext tt tt refl)
 
-  pub next_owes : (counter : Counter) → HasCounterWidth counter → IsCloser (length st.stored.integers) (NextOf (cell_of counter))
+  pub next_owes : (counter : IntegerCell) → HasCounterWidth counter → IsCloser (length st.stored.integers) (NextOf (cell_of counter))
       → Owes CodeAsks CodeDoes (op_code named (o.Next counter line)) (Arrives image (Nexts st line (store.closing_error 0 (NextOf (cell_of counter)) st.stored.opened) (store.nearest 0 (NextOf (cell_of counter)) st.stored.opened))) s
   next_owes counter width there =
       load_then 1 (variable_address counter) (address-low counter width)

@@ -12,7 +12,7 @@ use crate::loads::{emit_load, emit_operate, emit_raise};
 use crate::registers::{BASE, CELL_BYTES, CELLS, NUMBERS, OPENED_COUNT, RESIDENTS};
 use arm_isa::Instr;
 use arm_isa::numbers::{ADD, AL, CMP, EQ, GT, MOV, NE, R15, SUB};
-use bas_ir::Counter;
+use bas_store::IntegerCell;
 use bv_base::NoMemory;
 use code_frag::{Frag, Item};
 
@@ -24,12 +24,12 @@ pub const WHILE: u16 = 2;
 const GOSUB: u16 = 3;
 
 /// The address of a FOR's variable.
-fn variable_address(counter: Counter) -> u32
+fn variable_address(counter: IntegerCell) -> u32
     ensures { result ≡ variable_address counter }
 {
     match counter {
-        Counter::Resident(index) => RESIDENTS + 4 * index as u32,
-        Counter::Integer(name) => RESIDENTS + CELLS + CELL_BYTES * name as u32,
+        IntegerCell::Resident(index) => RESIDENTS + 4 * index as u32,
+        IntegerCell::Named(name) => RESIDENTS + CELLS + CELL_BYTES * name as u32,
     }
 }
 
@@ -58,7 +58,7 @@ pub fn emit_open(frag: &mut Frag, kind: u16, back: u32, line: u16) -> Result<(),
 /// Adds the opening of a FOR. The only error is want of memory.
 pub fn emit_open_for(
     frag: &mut Frag,
-    counter: Counter,
+    counter: IntegerCell,
     back: u32,
     line: u16,
 ) -> Result<(), NoMemory>
@@ -143,7 +143,7 @@ fn emit_turn(frag: &mut Frag, line: u16) -> Result<(), NoMemory>
 }
 
 /// Adds the code of NEXT of a variable. The only error is want of memory.
-pub fn emit_next(frag: &mut Frag, counter: Counter, line: u16) -> Result<(), NoMemory>
+pub fn emit_next(frag: &mut Frag, counter: IntegerCell, line: u16) -> Result<(), NoMemory>
     requires { raise_label < length frag.old.places }
     ensures { OnOk result (frag.new ≡ with_code (code_of (o.Next counter line)) frag.old) }
 {
