@@ -13,6 +13,7 @@ use Rattle.bas_ir.specs.declared.op.Op.{Op}
 use Rattle.bas_ir.specs.declared.op.Op.TheVariants as o
 use Rattle.bas_ir.specs.declared.op.Piece.TheVariants as pieces
 use Rattle.bas_ir.specs.WellFormed.{most_code}
+use Rattle.bas_store.specs.declared.cell.IntegerCell.TheVariants as cells
 use Rattle.bv_num.specs.Bits.{pattern}
 use Rattle.code_frag.specs.Language.{Skip, ◌⨾◌, is_well_formed, calls, size}
 use Rattle.code_frag.specs.Runs.{Meets, MeetEach}
@@ -217,11 +218,13 @@ op-shape n (o.GoIfOne item) = (refl, refl, (omega arith, omega arith))
 op-shape n (o.GosubIfOne line item) = (refl, refl, (omega arith, omega arith))
 op-shape n (o.RaiseIfOne error line) = (refl, refl, (omega arith, omega arith))
 op-shape n (o.GoIfEqual item) = (refl, refl, (omega arith, omega arith))
-op-shape n (o.OpenFor counter line) = (refl, refl, (omega arith, omega arith))
+op-shape n (o.OpenFor (cells.Resident index) line) = (refl, refl, (omega arith, omega arith))
+op-shape n (o.OpenFor (cells.Named name) line) = (refl, refl, (omega arith, omega arith))
 op-shape n (o.OpenRepeat line) = (refl, refl, (omega arith, omega arith))
 op-shape n (o.OpenWhile line) = (refl, refl, (omega arith, omega arith))
 op-shape n (o.Gosub line item) = (refl, refl, (omega arith, omega arith))
-op-shape n (o.Next counter line) = (refl, refl, (omega arith, omega arith))
+op-shape n (o.Next (cells.Resident index) line) = (refl, refl, (omega arith, omega arith))
+op-shape n (o.Next (cells.Named name) line) = (refl, refl, (omega arith, omega arith))
 op-shape n (o.NextAny line) = (refl, refl, (omega arith, omega arith))
 op-shape n (o.Until line) = (refl, refl, (omega arith, omega arith))
 op-shape n (o.EndWhile line) = (refl, refl, (omega arith, omega arith))
@@ -352,11 +355,13 @@ module _ (code entry : ℕ → ℕ) (meets : (label : ℕ) → label < routines_
   op-calls n (o.GosubIfOne line item) = (meets 13 (omega arith), tt)
   op-calls n (o.RaiseIfOne error line) = tt
   op-calls n (o.GoIfEqual item) = tt
-  op-calls n (o.OpenFor counter line) = (meets 13 (omega arith), tt)
+  op-calls n (o.OpenFor (cells.Resident index) line) = (meets 13 (omega arith), tt)
+  op-calls n (o.OpenFor (cells.Named name) line) = (meets 13 (omega arith), tt)
   op-calls n (o.OpenRepeat line) = (meets 13 (omega arith), tt)
   op-calls n (o.OpenWhile line) = (meets 13 (omega arith), tt)
   op-calls n (o.Gosub line item) = (meets 13 (omega arith), tt)
-  op-calls n (o.Next counter line) = (meets 15 (omega arith), tt)
+  op-calls n (o.Next (cells.Resident index) line) = (meets 15 (omega arith), tt)
+  op-calls n (o.Next (cells.Named name) line) = (meets 15 (omega arith), tt)
   op-calls n (o.NextAny line) = (meets 15 (omega arith), tt)
   op-calls n (o.Until line) = (meets 14 (omega arith), tt)
   op-calls n (o.EndWhile line) = (meets 14 (omega arith), tt)

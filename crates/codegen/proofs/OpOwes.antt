@@ -195,7 +195,7 @@ module _ (image : Site) (address : Named) (ir : Ir) (site : IsSite image) (text_
   op_owes (o.OpenFor counter line) named [] texts st s c f good same = absurd (let e = c.finds in cc e)
   op_owes (o.OpenFor counter line) named (step ∷ []) texts st s c f good same = absurd (let e = c.finds in cc e)
   op_owes (o.OpenFor counter line) named (step ∷ limit ∷ numbers) texts st s c f good same =
-      open_for_owes site address back (record { numbers = numbers; texts = texts }) counter line limit step c.widths.1 c.widths.0 (let h = c.short in omega (arith, h)) f
+      open_for_owes site address back (record { numbers = numbers; texts = texts }) counter line limit step c.widths.1 c.widths.0 (counter_there counter st c.names c.there) (let h = c.short in omega (arith, h)) f
   op_owes (o.OpenRepeat line) named numbers texts st s c f good same = open_repeat_owes site address back (record { numbers = numbers; texts = texts }) line c.widths c.short f
   op_owes (o.OpenWhile line) named numbers texts st s c f good same = open_while_owes site address back (record { numbers = numbers; texts = texts }) line c.widths c.short f
   op_owes (o.Gosub line item) named numbers texts st s c f good same =
