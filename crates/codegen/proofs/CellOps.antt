@@ -115,9 +115,9 @@ module _ {image : Site} {p : Pending} {st : State} {s : Core} (texts : Named) wh
       (λ small. end_here (record { by = (refl, with_top (slice_index_or st.stored.residents index (pos 0)) (record { holds = g.holds; numbers = g.numbers; texts = g.texts }) (g.holds.has_residents.each index inside)) })))
 
   -- it is stored
-  pub store_resident_owes : (index : ℕ) (value : ℤ) → index < residents → StandsFor image (pushed value p) st s → IsGood s → IsShort p
+  pub store_resident_owes : (index : ℕ) (value : ℤ) → index < residents → StandsFor image (pushed value p) st s → s.regs 0 < 2 ^ 32 → IsShort p
       → Owes CodeAsks CodeDoes (op_code texts (o.StoreResident index)) (Arrives image (Value (Falls p) (record st { stored = with_number (Resident index) value st.stored }))) s
-  store_resident_owes index value inside f good few =
+  store_resident_owes index value inside f small few =
       let a = residents_start + 4 * index in
       let b = f.holds.base_is in
       let g = without_top f in
@@ -125,7 +125,7 @@ module _ {image : Site} {p : Pending} {st : State} {s : Core} (texts : Named) wh
       store_then a (s.regs 0) (omega (arith, b, inside)) refl (omega arith) (inr (omega arith, omega (arith, inside)))
       (drop_end (record {
         holds = subst (λ v. Holds image.branches image.table (record st { stored = with_number (Resident index) v st.stored }) (s.regs 11) (s.regs 13) (put_word s.mem a (s.regs 0)) s.out) f.numbers.0
-            (holds_resident st (s.regs 11) (s.regs 13) s.mem s.out index (s.regs 0) f.holds inside (good.regs 0));
+            (holds_resident st (s.regs 11) (s.regs 13) s.mem s.out index (s.regs 0) f.holds inside small);
         numbers = subst (λ w. Numbers (put_word s.mem a (s.regs 0)) (s.regs 12 + 4) w p.numbers)
             (word-same s.mem (put_word s.mem a (s.regs 0)) (s.regs 12) (λ c low high. sym (byte-put_other s.mem a (s.regs 0) c (inr (omega (arith, low, inside, room, few))))))
             (numbers_kept s.mem (put_word s.mem a (s.regs 0)) (s.regs 12 + 4) (word s.mem (s.regs 12)) p.numbers g.numbers (λ c low high. byte-put_other s.mem a (s.regs 0) c (inr (omega (arith, low, inside, room, few)))));

@@ -28,7 +28,7 @@ use Rattle.codegen.specs.Operations.{Named, op_code, operate, raise_if_failed, r
 use Rattle.codegen.specs.Outcomes.{Arrives}
 use Rattle.codegen.specs.StandsFor.{Site, IsSite, Holds, StandsFor}
 use Rattle.codegen.proofs.Arriving.{CodeAsks, CodeDoes, Free, IsShort, free_pending, free_with_room, with_room, load_then, room_then, over_by, raise_over, raised}
-use Rattle.codegen.proofs.ArithmeticOps.{answered_end, computed, free_same}
+use Rattle.codegen.proofs.ArithmeticOps.{answered_end, arrived, computed, free_same}
 use Rattle.codegen.proofs.NumberFacts.{data-errors}
 use Rattle.codegen.proofs.OpenOps.{check_then}
 use Rattle.codegen.proofs.OutputOps.{text-is}
@@ -138,15 +138,15 @@ module _ {image : Site} {p : Pending} {st : State} {s : Core} (site : IsSite ima
       (λ none. skip_then
       (call_then {e = 18}
       (λ q bound. let top = high in omega (arith, first, top))
-      (λ q v bound good_v a. number_end (record { holds = taken.holds; numbers = taken.numbers; texts = taken.texts }) text q v spelled a)
+      (λ q v bound good_v a. number_end (record { holds = taken.holds; numbers = taken.numbers; texts = taken.texts }) text q v good_v spelled a)
       (λ q l v bound good_v a. absurd (let z = a.falls in cc z))))
       (λ some. absurd (some e.no_error)))
     where
-      number_end : {new : State} {u : Core} → Free image p new u → (text : List ℕ) (q : ℕ) (v : Core) → text_at u.mem (u.regs 0) ≡ text → Calculates (data_value (text_at u.mem (u.regs 0))) (put 14 q u) demands.Falls v
+      number_end : {new : State} {u : Core} → Free image p new u → (text : List ℕ) (q : ℕ) (v : Core) → IsGood v → text_at u.mem (u.regs 0) ≡ text → Calculates (data_value (text_at u.mem (u.regs 0))) (put 14 q u) demands.Falls v
           → Owes CodeAsks CodeDoes (raise_if_failed line ⨾ Skip) (Arrives image (computed (data_value text) line p new)) v
-      number_end {new} {u} g text q v spelled a =
-          answered_end (data_value text) line (data-errors text) fits (free_same {image = image} {p = p} {st = new} {s = put 14 q u} {t = v} (record { holds = g.holds; numbers = g.numbers; texts = g.texts }) a.kept a.mem a.out)
-          (subst (λ l. Answers (data_value l) v) spelled a.answers)
+      number_end {new} {u} g text q v good_v spelled a =
+          arrived (raise_if_failed line ⨾ Skip) (data_value text) line (answered_end (data_value text) line (data-errors text) fits (free_same {image = image} {p = p} {st = new} {s = put 14 q u} {t = v} (record { holds = g.holds; numbers = g.numbers; texts = g.texts }) a.kept a.mem a.out)
+          (good_v.regs 0) (subst (λ l. Answers (data_value l) v) spelled a.answers))
 
   pub read_number_owes : (named : Named) → Owes CodeAsks CodeDoes (op_code named (o.ReadNumber line)) (Arrives image (Reads st line p (slice_get image.table.texts st.data_place))) s
   read_number_owes named =

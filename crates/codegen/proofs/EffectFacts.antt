@@ -7,9 +7,10 @@ use Rattle.bas_ir.specs.declared.ir.Ir.{Ir}
 use Rattle.bas_ir.specs.declared.op.Op.{Op}
 use Rattle.bas_ir.specs.declared.op.Op.TheVariants as o
 use Rattle.bas_ir.specs.Coded.{HasCode}
-use Rattle.bas_ir.specs.declared.op.Counter.{Counter}
-use Rattle.bas_ir.specs.declared.op.Counter.TheVariants as counters
-use Rattle.bas_ir.specs.Effects.{Effect, Falls, Goes, Opens, falls, go_if, go_if_one, go_if_equal, gosub_if_one, raise_if_one, cell_of, round_or_on, effect}
+use Rattle.bas_store.specs.Entries.{cell_of}
+use Rattle.bas_store.specs.declared.cell.IntegerCell.{IntegerCell}
+use Rattle.bas_store.specs.declared.cell.IntegerCell.TheVariants as cells
+use Rattle.bas_ir.specs.Effects.{Effect, Falls, Goes, Opens, falls, go_if, go_if_one, go_if_equal, gosub_if_one, raise_if_one, round_or_on, effect}
 use Rattle.bas_ir.specs.Places.{Pending, pushed}
 use Rattle.bas_ir.specs.WellFormed.{IsReached, IsThere, IsCounter}
 use Rattle.bas_sem.specs.Actions.{taker, raised_to, raise, assign, or_raise, or_unknown}
@@ -17,13 +18,13 @@ use Rattle.bas_sem.specs.Calls.{Level, GoOn}
 use Rattle.bas_sem.specs.Data.{item_taken}
 use Rattle.bas_sem.specs.Course.{Course, Value, on_value, ◌>>◌, give}
 use Rattle.bas_sem.specs.Loops.{found_or, leave_open, settle, goes_round, turned}
-use Rattle.bas_sem.specs.Operators.{of_one, of_two}
+use Rattle.bas_sem.specs.Operators.{of_one, of_two, comparison}
 use Rattle.bas_sem.specs.State.{State}
 use Rattle.bas_store.specs.Cells.{Cell, Resident, Integer}
 use Rattle.bas_store.specs.Opened as store
 use Rattle.bas_store.specs.Opened.{Closer, AnyNext, NextOf, Until, EndWhile, Return, Found, closes}
 use Rattle.bas_store.specs.Stored.{Handler, Opening, For, Repeat, While, Gosub, Entry, number_in, or_zero, with_number}
-use Rattle.bv_num.specs.Operation.{operation, Add}
+use Rattle.bv_num.specs.Operation.{operation, exact, Add}
 use Rattle.bv_num.specs.Value.{data_value}
 use Rattle.codegen.specs.StandsFor.{IsNamed, IsEntry, AreEntries}
 use Rattle.bas_value.specs.Errors.{error_text, unknown_variable, no_for, no_repeat, no_while, no_subroutine, out_of_data}
@@ -76,6 +77,10 @@ module _ (ir : Ir) (left names : ℕ) where
   by_result : (line : ℕ) (p : Pending) (result : Result ℤ ℕ) (st : State) → Same ir left names st → Facts ir left names (on_value (or_raise line result st) (λ value. falls (pushed value p)))
   by_result line p (Ok value) st same = same
   by_result line p (Err error) st same = by_raise (λ value. falls (pushed value p)) error line st
+
+  by_change : (line resident : ℕ) (p : Pending) (result : Result ℤ ℕ) (st : State) → Same ir left names st → Facts ir left names (on_value (or_raise line result st) (λ value. assign (Resident resident) value >> falls p))
+  by_change line resident p (Ok value) st same = same
+  by_change line resident p (Err error) st same = by_raise (λ value. assign (Resident resident) value >> falls p) error line st
 
   by_cell : (line : ℕ) (p : Pending) (cell : Option ℤ) (st : State) → Same ir left names st → Facts ir left names (on_value (or_unknown line cell st) (λ value. falls (pushed value p)))
   by_cell line p None st same = by_raise (λ value. falls (pushed value p)) unknown_variable line st
@@ -153,9 +158,9 @@ module _ (ir : Ir) (left names : ℕ) where
   by_next error line p None st fits same = raised_within _ _ error line st
   by_next error line p (Some f) st fits same = by_turned line f.entry.opening f p st fits same
 
-  named_counter : (counter : Counter) (limit step : ℤ) → names ≡ length ir.names → IsCounter ir counter → IsNamed names (For (cell_of counter) limit step)
-  named_counter (counters.Resident index) limit step count there = there
-  named_counter (counters.Integer name) limit step count there = omega (arith, count, there)
+  named_counter : (counter : IntegerCell) (limit step : ℤ) → names ≡ length ir.names → IsCounter ir counter → IsNamed names (For (cell_of counter) limit step)
+  named_counter (cells.Resident index) limit step count there = there
+  named_counter (cells.Named name) limit step count there = omega (arith, count, there)
 
   -- what a word closes
   abbrev Nearest : ℕ → Closer → State → Option Found
@@ -175,6 +180,13 @@ module _ (ir : Ir) (left names : ℕ) where
   effect_facts level (o.Binary x line) [] texts st coded there count is same = tt
   effect_facts level (o.Binary x line) (value ∷ []) texts st coded there count is same = tt
   effect_facts level (o.Binary x line) (y ∷ z ∷ numbers) texts st coded there count is same = by_result line (record { numbers = numbers; texts = texts }) (of_two x z y) st same
+  effect_facts level (o.BinaryWith x line number) [] texts st coded there count is same = tt
+  effect_facts level (o.BinaryWith x line number) (y ∷ numbers) texts st coded there count is same = by_result line (record { numbers = numbers; texts = texts }) (of_two x y number) st same
+  effect_facts level (o.BinaryWithResident x resident line) [] texts st coded there count is same = tt
+  effect_facts level (o.BinaryWithResident x resident line) (y ∷ numbers) texts st coded there count is same =
+      by_result line (record { numbers = numbers; texts = texts }) (of_two x y (or_zero (number_in (Resident resident) st.stored))) st same
+  effect_facts level (o.ChangeResident x resident line number) numbers texts st coded there count is same =
+      by_change line resident (record { numbers = numbers; texts = texts }) (of_two x (or_zero (number_in (Resident resident) st.stored)) number) st same
   effect_facts level (o.StoreResident index) [] texts st coded there count is same = tt
   effect_facts level (o.StoreResident index) (value ∷ numbers) texts st coded there count is same = same
   effect_facts level (o.StoreInteger name) [] texts st coded there count is same = tt
@@ -189,6 +201,13 @@ module _ (ir : Ir) (left names : ℕ) where
   effect_facts level (o.Go item) numbers texts st coded there count is same = (there, same)
   effect_facts level (o.GoIfZero item) [] texts st coded there count is same = tt
   effect_facts level (o.GoIfZero item) (value ∷ numbers) texts st coded there count is same = by_zero (int_eq value (pos 0)) item (record { numbers = numbers; texts = texts }) st there same
+  effect_facts level (o.GoUnless relation item) [] texts st coded there count is same = tt
+  effect_facts level (o.GoUnless relation item) (y ∷ []) texts st coded there count is same = tt
+  effect_facts level (o.GoUnless relation item) (y ∷ x ∷ numbers) texts st coded there count is same =
+      by_zero (int_eq (exact (comparison relation) x y) (pos 0)) item (record { numbers = numbers; texts = texts }) st there same
+  effect_facts level (o.GoUnlessWith relation item number) [] texts st coded there count is same = tt
+  effect_facts level (o.GoUnlessWith relation item number) (x ∷ numbers) texts st coded there count is same =
+      by_zero (int_eq (exact (comparison relation) x number) (pos 0)) item (record { numbers = numbers; texts = texts }) st there same
   effect_facts level o.Discard [] texts st coded there count is same = tt
   effect_facts level o.Discard (value ∷ numbers) texts st coded there count is same = same
   effect_facts level (o.GoIfOne item) [] texts st coded there count is same = tt

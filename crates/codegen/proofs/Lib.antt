@@ -14,6 +14,7 @@ mod NumberFacts
 mod ArithmeticOps
 mod DataOps
 mod ShiftOps
+mod OperandOps
 mod OpOwes
 mod OpFacts
 mod PlacedOps

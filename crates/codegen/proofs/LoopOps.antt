@@ -1,13 +1,14 @@
 -- The operations that open and close loops and GOSUBs, other than NEXT, and those of ON.
-use Rattle.std.proofs.Common.{◌≡◌, ℕ, zero, suc, ◌+◌, ◌-◌, ◌*◌, ◌^◌, ◌<◌, ◌≤◌, ◌==◌, inl, inr, Bool, true, false, ℤ, pos, negsuc, ◌∷◌, length, Option, None, Some, refl, sym, ap, subst, ◌∙◌, arith, lt-ltb, ltb-true, ltb-false, ◌-ℤ◌}
+use Rattle.std.proofs.Common.{◌≡◌, ℕ, zero, suc, ◌+◌, ◌%◌, ◌-◌, ◌*◌, ◌^◌, ◌<◌, ◌≤◌, ◌==◌, inl, inr, Bool, true, false, ℤ, pos, negsuc, ◌∷◌, length, Option, None, Some, refl, sym, ap, subst, ◌∙◌, arith, lt-ltb, ltb-true, ltb-false, ◌-ℤ◌}
 use Rattle.std.proofs.lemmas.Int.{ints}
 use Rattle.std.specs.Int.Signed.{lt_z}
 use Rattle.std.specs.Ordering.{int_eq}
-use Rattle.bas_ir.specs.declared.op.Counter.{Counter}
-use Rattle.bas_ir.specs.declared.op.Counter.TheVariants as counters
+use Rattle.bas_store.specs.Entries.{cell_of}
+use Rattle.bas_store.specs.declared.cell.IntegerCell.{IntegerCell}
+use Rattle.bas_store.specs.declared.cell.IntegerCell.TheVariants as cells
 use Rattle.bas_ir.specs.declared.op.Op.TheVariants as o
 use Rattle.bas_ir.specs.Coded.{HasCounterWidth}
-use Rattle.bas_ir.specs.Effects.{Effect, Falls, Goes, Opens, counted_down, go_if_one, go_if_equal, gosub_if_one, raise_if_one, cell_of, round_or_on}
+use Rattle.bas_ir.specs.Effects.{Effect, Falls, Goes, Opens, counted_down, go_if_one, go_if_equal, gosub_if_one, raise_if_one, round_or_on}
 use Rattle.bas_ir.specs.Places.{Pending, nothing, pushed}
 use Rattle.bas_sem.specs.Actions.{raise}
 use Rattle.bas_sem.specs.Calls.{GoOn}
@@ -15,10 +16,13 @@ use Rattle.bas_sem.specs.Course.{Course, Value, on_value, ◌>>◌, give}
 use Rattle.bas_sem.specs.Loops.{opens, found_or, settle, leave_open}
 use Rattle.bas_sem.specs.State.{State}
 use Rattle.bas_store.specs.Opened as store
-use Rattle.bas_store.specs.Opened.{Until, EndWhile, Return, Found}
+use Rattle.bas_store.specs.Opened.{NextOf, Until, EndWhile, Return, Found}
 use Rattle.bas_store.specs.Stored.{Opening, For, Repeat, While, Gosub}
 use Rattle.bas_value.specs.Errors.{no_room, no_repeat, no_while, no_subroutine}
 use Rattle.bv_num.specs.Bits.{signed}
+use Rattle.arm_isa.specs.Immediates.{immediate_value}
+use Rattle.arm_isa.proofs.ImmediateLaws.{immediate_value-byte}
+use Rattle.bas_store.specs.Cells.{residents, Resident, Integer}
 use Rattle.arm2_alu.specs.Operations.{is_signed_word}
 use Rattle.arm2_alu.proofs.ValueLaws.{compared, minus}
 use Rattle.arm_core.specs.Core.{Core, IsGood, put, word, put_word}
@@ -29,14 +33,15 @@ use Rattle.code_frag.specs.Demands as demands
 use Rattle.code_frag.specs.Demands.{Post, Leaves, ToLabel, ToPlace, Owes}
 use Rattle.code_frag.specs.Language as language
 use Rattle.code_frag.specs.Language.{Skip, LeaveTo, ◌⨾◌}
-use Rattle.code_frag.specs.Regions.{opened_count_at}
+use Rattle.code_frag.specs.Regions.{residents_start, opened_count_at}
 use Rattle.code_frag.proofs.Rules as rules
 use Rattle.code_frag.proofs.Rules.{end_here, seq_then, skip_then, set_then, set_where_then, skip_where_then, test_then, when_then, store_then, pull_then, leave_then, leave_to_then}
-use Rattle.codegen.specs.Operations.{Named, op_code, raise_label, item_label, drop, count_down, variable_address}
+use Rattle.code_frag.specs.Language.{◌⨾◌}
+use Rattle.codegen.specs.Operations.{Named, op_code, raise_label, item_label, drop, count_down, variable_address, find_variable, open_entry}
 use Rattle.codegen.specs.Outcomes.{LeadsTo, ComesOpened, Arrives}
 use Rattle.codegen.specs.StandsFor.{Site, IsSite, AreEntries, cell_word, StandsFor}
 use Rattle.codegen.proofs.Arriving.{CodeAsks, CodeDoes, Free, IsShort, without_top, free_room, load_then, drop_end, over_by, raise_over, raise_by}
-use Rattle.codegen.proofs.EntryLaws.{eqb-by}
+use Rattle.codegen.proofs.EntryLaws.{IsCloser, eqb-by}
 use Rattle.codegen.proofs.NumberFacts.{difference-is, equal_by}
 use Rattle.codegen.proofs.PendingLaws.{numbers_room}
 use Rattle.codegen.proofs.OpenOps.{opened_state, open_end, open_then, left_open, IsClosed, close_then, holds_opened}
@@ -159,13 +164,17 @@ reopened image st e t c =
     }
 
 -- a variable's address is that of its cell, and a word
-pub address-is : (counter : Counter) → variable_address counter ≡ cell_word (cell_of counter)
-address-is (counters.Resident index) = refl
-address-is (counters.Integer name) = refl
+pub address-is : (counter : IntegerCell) → variable_address counter ≡ cell_word (cell_of counter)
+address-is (cells.Resident index) = refl
+address-is (cells.Named name) = refl
 
-pub address-low : (counter : Counter) → HasCounterWidth counter → variable_address counter < 2 ^ 32
-address-low (counters.Resident index) w = omega (arith, w)
-address-low (counters.Integer name) w = omega (arith, w)
+-- a resident's comes from the residents' address
+pub variable-is : (index base : ℕ) → base ≡ residents_start → index < residents → (base + immediate_value (4 * index)) % 2 ^ 32 ≡ variable_address (cells.Resident index)
+variable-is index base is inside = let b = immediate_value-byte (4 * index) (omega (arith, inside)) in (λ i. (is i + b i) % 2 ^ 32) ∙ omega (arith, inside)
+
+pub address-low : (counter : IntegerCell) → HasCounterWidth counter → variable_address counter < 2 ^ 32
+address-low (cells.Resident index) w = omega (arith, w)
+address-low (cells.Named name) w = omega (arith, w)
 
 module _ {image : Site} {st : State} {s : Core} (site : IsSite image) (named : Named) (back : named.back ≡ image.branches + 4 * image.next) where
   -- ---- ON
@@ -254,19 +263,32 @@ module _ {image : Site} {st : State} {s : Core} (site : IsSite image) (named : N
       (open_then Gosub line named.back fits (record { holds = f.holds; numbers = f.numbers; texts = f.texts }) (omega arith) refl (back_small image named site back) back tt
       (λ over t a. opened_full line Gosub (Some item) nothing over a) (λ fine t h. leave_then (opened_goes line Gosub item nothing fine h)))
 
-  pub open_for_owes : (p : Pending) (counter : Counter) (line : ℕ) (limit step : ℤ) → line < 65536 → HasCounterWidth counter → IsShort p → StandsFor image (pushed step (pushed limit p)) st s
+  pub open_for_owes : (p : Pending) (counter : IntegerCell) (line : ℕ) (limit step : ℤ) → line < 65536 → HasCounterWidth counter → IsCloser (length st.stored.integers) (NextOf (cell_of counter)) → IsShort p → StandsFor image (pushed step (pushed limit p)) st s
       → Owes CodeAsks CodeDoes (op_code named (o.OpenFor counter line)) (Arrives image (Value (Opens line (For (cell_of counter) limit step) None p) st)) s
-  open_for_owes p counter line limit step fits width short f =
+  open_for_owes p counter line limit step fits width there short f =
       let r = s.regs 12 in
       let room = numbers_room s.mem (r + 4 + 4) (word s.mem (r + 4)) p.numbers f.numbers.1.1 in
       set_then (s.regs 0) refl refl
       (pull_then r (word s.mem r) (r + 4) refl refl (omega (arith, room)) (omega (arith, room)) (omega (arith, room))
       (λ small.
       pull_then (r + 4) (word s.mem (r + 4)) (r + 4 + 4) refl refl (omega (arith, room)) (omega (arith, room)) (omega (arith, room))
-      (λ low.
-      load_then 1 (variable_address counter) (address-low counter width)
-      (open_end (For (cell_of counter) limit step) line named.back fits (record { holds = f.holds; numbers = f.numbers.1.1; texts = f.texts }) short (address-is counter) (back_small image named site back) back (f.numbers.1.0, f.numbers.0)
-      (λ over t a. opened_full line (For (cell_of counter) limit step) None p over a) (λ fine t h. opened_falls line (For (cell_of counter) limit step) p fine h)))))
+      (λ low. opens counter width there)))
+    where
+      -- the step is in R4, and the limit in R3
+      taken : Core
+      taken = put 0 (word s.mem (s.regs 12 + 4)) (put 12 (s.regs 12 + 4 + 4) (put 3 (word s.mem (s.regs 12)) (put 12 (s.regs 12 + 4) (put 4 (s.regs 0) s))))
+
+      opens : (counter : IntegerCell) → HasCounterWidth counter → IsCloser (length st.stored.integers) (NextOf (cell_of counter))
+          → Owes CodeAsks CodeDoes (find_variable counter ⨾ open_entry named.back line) (Arrives image (Value (Opens line (For (cell_of counter) limit step) None p) st)) taken
+      opens (cells.Resident index) width there =
+          seq_then (set_then (variable_address (cells.Resident index)) refl (variable-is index (s.regs 11) f.holds.base_is there)
+          (skip_then
+          (open_end (For (Resident index) limit step) line named.back fits (record { holds = f.holds; numbers = f.numbers.1.1; texts = f.texts }) short refl (back_small image named site back) back (f.numbers.1.0, f.numbers.0)
+          (λ over t a. opened_full line (For (Resident index) limit step) None p over a) (λ fine t h. opened_falls line (For (Resident index) limit step) p fine h))))
+      opens (cells.Named name) width there =
+          load_then 1 (variable_address (cells.Named name)) (address-low (cells.Named name) width)
+          (open_end (For (Integer name) limit step) line named.back fits (record { holds = f.holds; numbers = f.numbers.1.1; texts = f.texts }) short refl (back_small image named site back) back (f.numbers.1.0, f.numbers.0)
+          (λ over t a. opened_full line (For (Integer name) limit step) None p over a) (λ fine t h. opened_falls line (For (Integer name) limit step) p fine h))
 
   -- ---- what is closed
 

@@ -2,7 +2,6 @@
 use Rattle.std.proofs.Common.{◌≡◌, ℕ, suc, ◌+◌, ◌*◌, ◌^◌, ◌<◌, ◌≤◌, ℤ, pos, List, [], ◌∷◌, Some, length, slice_get, slice_index_or, refl, sym, ap, subst, ◌∙◌, arith}
 use Rattle.std.proofs.Math.Path.{transport}
 use Rattle.bas_ast.specs.declared.expressions.BinaryOp.{BinaryOp}
-use Rattle.bas_ast.specs.declared.expressions.BinaryOp.TheVariants as op
 use Rattle.bas_ast.specs.declared.expressions.UnaryOp.{UnaryOp}
 use Rattle.bas_ast.specs.declared.expressions.UnaryOp.TheVariants as unary
 use Rattle.bas_ir.specs.declared.ir.Height.{Height}
@@ -10,9 +9,10 @@ use Rattle.bas_ir.specs.declared.ir.Ir.{Ir}
 use Rattle.bas_ir.specs.declared.op.Op.{Op}
 use Rattle.bas_ir.specs.declared.op.Op.TheVariants as o
 use Rattle.bas_ir.specs.Coded.{HasCode, HasWidths}
-use Rattle.bas_ir.specs.declared.op.Counter.{Counter}
-use Rattle.bas_ir.specs.declared.op.Counter.TheVariants as counters
-use Rattle.bas_ir.specs.Effects.{go_if_one, go_if_equal, gosub_if_one, cell_of, effect}
+use Rattle.bas_store.specs.Entries.{cell_of}
+use Rattle.bas_store.specs.declared.cell.IntegerCell.{IntegerCell}
+use Rattle.bas_store.specs.declared.cell.IntegerCell.TheVariants as cells
+use Rattle.bas_ir.specs.Effects.{go_unless, go_if_one, go_if_equal, gosub_if_one, effect}
 use Rattle.bas_ir.specs.Heights.{height_after}
 use Rattle.bas_ir.specs.Places.{Pending, nothing, pushed}
 use Rattle.bas_ir.specs.WellFormed.{IsThere, IsCounter}
@@ -34,7 +34,8 @@ use Rattle.codegen.specs.Outcomes.{Arrives}
 use Rattle.codegen.specs.Program.{number_of_item, text_of}
 use Rattle.codegen.specs.StandsFor.{Site, IsSite, IsText, AreEntries, StandsFor}
 use Rattle.codegen.proofs.Arriving.{CodeAsks, CodeDoes, Free, without_top, free_room}
-use Rattle.codegen.proofs.ArithmeticOps.{computed, or_owes, eor_owes, and_owes, add_owes, subtract_owes, compare_owes, product_owes, quotient_owes, remainder_owes, kept_owes, minus_owes, not_owes, abs_owes, sign_owes}
+use Rattle.codegen.proofs.OperandOps.{binary_owes, binary_with_owes, binary_with_resident_owes, change_resident_owes, go_unless_owes, go_unless_with_owes}
+use Rattle.codegen.proofs.ArithmeticOps.{computed, arrived, kept_owes, minus_owes, not_owes, abs_owes, sign_owes}
 use Rattle.codegen.proofs.DataOps.{Reads, restore_owes, read_number_owes}
 use Rattle.codegen.proofs.CellOps.{push_owes, push_column_owes, push_resident_owes, store_resident_owes, push_integer_owes, store_integer_owes, push_text_owes}
 use Rattle.codegen.proofs.LeavingOps.{go_owes, go_if_zero_owes, raise_owes, end_owes}
@@ -42,12 +43,13 @@ use Rattle.codegen.proofs.EntryLaws.{IsCloser}
 use Rattle.codegen.proofs.LoopOps.{discard_owes, go_if_one_owes, go_if_equal_owes, gosub_if_one_owes, raise_if_one_owes, open_for_owes, open_repeat_owes, open_while_owes, gosub_owes, until_owes, endwhile_owes, return_owes}
 use Rattle.codegen.proofs.TurnOps.{next_owes, next_any_owes}
 use Rattle.codegen.proofs.OutputOps.{write_number_owes, write_owes, write_mark_owes, write_text_owes}
-use Rattle.codegen.proofs.ShiftOps.{shift_left_owes, shift_right_signed_owes, shift_right_owes}
 
 -- what is pending after a jump
 abbrev pub JumpsEmpty : Op → List ℤ → List (List ℕ) → Type 0
 JumpsEmpty (o.Go item) numbers texts = (numbers ≡ []) × (texts ≡ [])
 JumpsEmpty (o.GoIfZero item) (value ∷ numbers) texts = (numbers ≡ []) × (texts ≡ [])
+JumpsEmpty (o.GoUnless relation item) (y ∷ x ∷ numbers) texts = (numbers ≡ []) × (texts ≡ [])
+JumpsEmpty (o.GoUnlessWith relation item number) (value ∷ numbers) texts = (numbers ≡ []) × (texts ≡ [])
 JumpsEmpty (o.GoIfOne item) (value ∷ numbers) texts = (numbers ≡ []) × (texts ≡ [])
 JumpsEmpty (o.GosubIfOne line item) (value ∷ numbers) texts = (numbers ≡ []) × (texts ≡ [])
 JumpsEmpty (o.GoIfEqual item) (y ∷ x ∷ numbers) texts = (numbers ≡ []) × (texts ≡ [])
@@ -87,22 +89,6 @@ module _ (image : Site) (address : Named) (ir : Ir) (site : IsSite image) (text_
   unary_owes unary.Sgn line q st s fits good f = sign_owes good f line fits
   unary_owes unary.Int line q st s fits good f = kept_owes good f line fits unary.Int refl
 
-  -- an operator
-  binary_owes : (x : BinaryOp) (line : ℕ) (q : Pending) (st : State) (s : Core) → line < 65536 → IsGood s → Free image q st s
-      → Owes CodeAsks CodeDoes (binary_code x line) (Arrives image (computed (of_two x (signed (s.regs 1)) (signed (s.regs 0))) line q st)) s
-  binary_owes op.Or line q st s fits good f = or_owes good f line fits
-  binary_owes op.Eor line q st s fits good f = eor_owes good f line fits
-  binary_owes op.And line q st s fits good f = and_owes good f line fits
-  binary_owes (op.Compare c) line q st s fits good f = compare_owes good f line fits c
-  binary_owes op.ShiftLeft line q st s fits good f = shift_left_owes good f line fits
-  binary_owes op.ShiftRightSigned line q st s fits good f = shift_right_signed_owes good f line fits
-  binary_owes op.ShiftRight line q st s fits good f = shift_right_owes good f line fits
-  binary_owes op.Add line q st s fits good f = add_owes good f line fits
-  binary_owes op.Subtract line q st s fits good f = subtract_owes good f line fits
-  binary_owes op.Multiply line q st s fits good f = product_owes good f line fits
-  binary_owes op.Divide line q st s fits good f = quotient_owes good f line fits
-  binary_owes op.Remainder line q st s fits good f = remainder_owes good f line fits
-
   binary_from : (x : BinaryOp) (line : ℕ) (y z : ℤ) (numbers : List ℤ) (texts : List (List ℕ)) (st : State) (s : Core) → line < 65536 → suc (suc (length numbers)) + length texts ≤ 256 → StandsFor image (record { numbers = y ∷ z ∷ numbers; texts = texts }) st s → IsGood s
       → Owes CodeAsks CodeDoes (op_code address (o.Binary x line)) (Arrives image (effect ir outermost (o.Binary x line) (record { numbers = y ∷ z ∷ numbers; texts = texts }) st)) s
   binary_from x line y z numbers texts st s fits short f good =
@@ -114,12 +100,10 @@ module _ (image : Site) (address : Named) (ir : Ir) (site : IsSite image) (text_
       (λ small.
       let t = put 1 b (put 12 (p + 4) s) in
       transport (λ i. Owes CodeAsks CodeDoes (binary_code x line) (Arrives image (computed (of_two x (f.numbers.1.0 i) (f.numbers.0 i)) line q st)) t)
-      (binary_owes x line q st t fits (record {
+      (arrived (binary_code x line) _ line (binary_owes x line q st t fits (record {
         regs = λ k. updated-lt (updated s.regs 12 (p + 4)) 1 b (2 ^ 32) (λ j. updated-lt s.regs 12 (p + 4) (2 ^ 32) good.regs (omega (arith, room)) j) small k;
-        mem = good.mem;
-        input = good.input;
       })
-      (record { holds = f.holds; numbers = f.numbers.1.1; texts = f.texts })))
+      (record { holds = f.holds; numbers = f.numbers.1.1; texts = f.texts }))))
 
   -- jumps, where nothing is pending after them
   go_from : (item : ℕ) (numbers : List ℤ) (texts : List (List ℕ)) (st : State) (s : Core) → (numbers ≡ []) × (texts ≡ []) → StandsFor image (record { numbers = numbers; texts = texts }) st s
@@ -133,9 +117,9 @@ module _ (image : Site) (address : Named) (ir : Ir) (site : IsSite image) (text_
       (go_if_zero_owes address item value (transport (λ i. StandsFor image (record { numbers = value ∷ none.0 i; texts = none.1 i }) st s) f) good)
 
   -- the variable of a FOR
-  counter_there : (counter : Counter) (st : State) → length st.stored.integers ≡ length ir.names → IsCounter ir counter → IsCloser (length st.stored.integers) (NextOf (cell_of counter))
-  counter_there (counters.Resident index) st names there = there
-  counter_there (counters.Integer name) st names there = omega (arith, names, there)
+  counter_there : (counter : IntegerCell) (st : State) → length st.stored.integers ≡ length ir.names → IsCounter ir counter → IsCloser (length st.stored.integers) (NextOf (cell_of counter))
+  counter_there (cells.Resident index) st names there = there
+  counter_there (cells.Named name) st names there = omega (arith, names, there)
 
   -- the open entries name what they may
   abbrev Are : State → Type 0
@@ -159,8 +143,16 @@ module _ (image : Site) (address : Named) (ir : Ir) (site : IsSite image) (text_
   op_owes (o.Binary x line) named [] texts st s c f good same = absurd (let e = c.finds in cc e)
   op_owes (o.Binary x line) named (value ∷ []) texts st s c f good same = absurd (let e = c.finds in cc e)
   op_owes (o.Binary x line) named (y ∷ z ∷ numbers) texts st s c f good same = binary_from x line y z numbers texts st s c.widths c.short f good
+  op_owes (o.BinaryWith x line number) named [] texts st s c f good same = absurd (let e = c.finds in cc e)
+  op_owes (o.BinaryWith x line number) named (y ∷ numbers) texts st s c f good same =
+      binary_with_owes address x line number y c.widths.0 c.widths.1 f good
+  op_owes (o.BinaryWithResident x resident line) named [] texts st s c f good same = absurd (let e = c.finds in cc e)
+  op_owes (o.BinaryWithResident x resident line) named (y ∷ numbers) texts st s c f good same =
+      binary_with_resident_owes address x resident line y c.coded c.widths.1 f good
+  op_owes (o.ChangeResident x resident line number) named numbers texts st s c f good same =
+      change_resident_owes address x resident line number c.coded c.widths.1 c.widths.2 f good c.short
   op_owes (o.StoreResident index) named [] texts st s c f good same = absurd (let e = c.finds in cc e)
-  op_owes (o.StoreResident index) named (value ∷ numbers) texts st s c f good same = store_resident_owes address index value c.coded f good (let h = c.short in omega (arith, h))
+  op_owes (o.StoreResident index) named (value ∷ numbers) texts st s c f good same = store_resident_owes address index value c.coded f (good.regs 0) (let h = c.short in omega (arith, h))
   op_owes (o.StoreInteger name) named [] texts st s c f good same = absurd (let e = c.finds in cc e)
   op_owes (o.StoreInteger name) named (value ∷ numbers) texts st s c f good same = store_integer_owes address name value (let n = c.names in let t = c.there in omega (arith, n, t)) f good (let h = c.short in omega (arith, h))
   op_owes (o.WriteNumber padded format) named [] texts st s c f good same = absurd (let e = c.finds in cc e)
@@ -173,6 +165,15 @@ module _ (image : Site) (address : Named) (ir : Ir) (site : IsSite image) (text_
   op_owes (o.Go item) named numbers texts st s c f good same = go_from item numbers texts st s c.jumps f
   op_owes (o.GoIfZero item) named [] texts st s c f good same = absurd (let e = c.finds in cc e)
   op_owes (o.GoIfZero item) named (value ∷ numbers) texts st s c f good same = go_if_zero_from item value numbers texts st s c.jumps f good
+  op_owes (o.GoUnless relation item) named [] texts st s c f good same = absurd (let e = c.finds in cc e)
+  op_owes (o.GoUnless relation item) named (y ∷ []) texts st s c f good same = absurd (let e = c.finds in cc e)
+  op_owes (o.GoUnless relation item) named (y ∷ x ∷ numbers) texts st s c f good same =
+      subst (λ q. StandsFor image (pushed y (pushed x q)) st s → Owes CodeAsks CodeDoes (op_code address (o.GoUnless relation item)) (Arrives image (Value (go_unless relation x y item q) st)) s) (none_is c.jumps)
+      (λ g. go_unless_owes address relation item y x g good) f
+  op_owes (o.GoUnlessWith relation item number) named [] texts st s c f good same = absurd (let e = c.finds in cc e)
+  op_owes (o.GoUnlessWith relation item number) named (x ∷ numbers) texts st s c f good same =
+      subst (λ q. StandsFor image (pushed x q) st s → Owes CodeAsks CodeDoes (op_code address (o.GoUnlessWith relation item number)) (Arrives image (Value (go_unless relation x number item q) st)) s) (none_is c.jumps)
+      (λ g. go_unless_with_owes address relation item number x c.widths.1 g good) f
   op_owes o.Discard named [] texts st s c f good same = absurd (let e = c.finds in cc e)
   op_owes o.Discard named (value ∷ numbers) texts st s c f good same = discard_owes site address back (record { numbers = numbers; texts = texts }) value f
   op_owes (o.GoIfOne item) named [] texts st s c f good same = absurd (let e = c.finds in cc e)
@@ -194,7 +195,7 @@ module _ (image : Site) (address : Named) (ir : Ir) (site : IsSite image) (text_
   op_owes (o.OpenFor counter line) named [] texts st s c f good same = absurd (let e = c.finds in cc e)
   op_owes (o.OpenFor counter line) named (step ∷ []) texts st s c f good same = absurd (let e = c.finds in cc e)
   op_owes (o.OpenFor counter line) named (step ∷ limit ∷ numbers) texts st s c f good same =
-      open_for_owes site address back (record { numbers = numbers; texts = texts }) counter line limit step c.widths.1 c.widths.0 (let h = c.short in omega (arith, h)) f
+      open_for_owes site address back (record { numbers = numbers; texts = texts }) counter line limit step c.widths.1 c.widths.0 (counter_there counter st c.names c.there) (let h = c.short in omega (arith, h)) f
   op_owes (o.OpenRepeat line) named numbers texts st s c f good same = open_repeat_owes site address back (record { numbers = numbers; texts = texts }) line c.widths c.short f
   op_owes (o.OpenWhile line) named numbers texts st s c f good same = open_while_owes site address back (record { numbers = numbers; texts = texts }) line c.widths c.short f
   op_owes (o.Gosub line item) named numbers texts st s c f good same =

@@ -203,6 +203,13 @@ module _ (ir : Ir) (code entry : ℕ → ℕ) (base : ℕ) (can : CanGenerate ir
       jumps (o.GoIfZero item) [] texts is finds none = tt
       jumps (o.GoIfZero item) (value ∷ numbers) texts is finds none =
           none_pending numbers texts (let e = ap (height_after ir.routines (o.GoIfZero item)) is ∙ finds in let h : height_of (record { numbers = numbers; texts = texts }) ≡ height_at ir (suc pc) = cc e in h ∙ none)
+      jumps (o.GoUnless relation item) [] texts is finds none = tt
+      jumps (o.GoUnless relation item) (y ∷ []) texts is finds none = tt
+      jumps (o.GoUnless relation item) (y ∷ x ∷ numbers) texts is finds none =
+          none_pending numbers texts (let e = ap (height_after ir.routines (o.GoUnless relation item)) is ∙ finds in let h : height_of (record { numbers = numbers; texts = texts }) ≡ height_at ir (suc pc) = cc e in h ∙ none)
+      jumps (o.GoUnlessWith relation item number) [] texts is finds none = tt
+      jumps (o.GoUnlessWith relation item number) (value ∷ numbers) texts is finds none =
+          none_pending numbers texts (let e = ap (height_after ir.routines (o.GoUnlessWith relation item number)) is ∙ finds in let h : height_of (record { numbers = numbers; texts = texts }) ≡ height_at ir (suc pc) = cc e in h ∙ none)
       jumps o.Discard numbers texts is finds none = tt
       jumps (o.GoIfOne item) [] texts is finds none = tt
       jumps (o.GoIfOne item) (value ∷ numbers) texts is finds none =
@@ -233,6 +240,9 @@ module _ (ir : Ir) (code entry : ℕ → ℕ) (base : ℕ) (can : CanGenerate ir
       jumps (o.PushInteger name line) numbers texts is finds none = tt
       jumps (o.PushText number) numbers texts is finds none = tt
       jumps (o.Unary y line) numbers texts is finds none = tt
+      jumps (o.BinaryWith y line number) numbers texts is finds none = tt
+      jumps (o.BinaryWithResident y resident line) numbers texts is finds none = tt
+      jumps (o.ChangeResident y resident line number) numbers texts is finds none = tt
       jumps (o.Binary y line) numbers texts is finds none = tt
       jumps (o.StoreResident index) numbers texts is finds none = tt
       jumps (o.StoreInteger name) numbers texts is finds none = tt

@@ -21,7 +21,7 @@ use Rattle.arm2_alu.specs.declared.shifts.Shifted.{Shifted}
 use Rattle.arm2_alu.specs.Shifts as alu
 use Rattle.arm2_alu.proofs.ShiftValues.{sign-high}
 use Rattle.arm2_alu.proofs.ValueLaws.{compared, signed-low, signed-high}
-use Rattle.arm_core.specs.Core.{Core, IsGood, put, meets}
+use Rattle.arm_core.specs.Core.{Core, put, meets}
 use Rattle.arm_core.specs.Effects.{flagged_by, operand_in, result_of}
 use Rattle.arm_core.proofs.Comparisons.{after-cs}
 use Rattle.arm_core.proofs.ShiftedOperands.{operand-shifted, lsl-value, lsr-value, asr-value_low}
@@ -31,10 +31,9 @@ use Rattle.code_frag.specs.Language as language
 use Rattle.code_frag.specs.Language.{Skip, ◌⨾◌}
 use Rattle.code_frag.proofs.Rules.{end_here, seq_then, skip_then, set_then, test_then, set_where_then, skip_where_then}
 use Rattle.codegen.specs.Operations.{binary_code, shift_where, shift_by, shift_out}
-use Rattle.codegen.specs.Outcomes.{Arrives}
 use Rattle.codegen.specs.StandsFor.{Site}
 use Rattle.codegen.proofs.Arriving.{CodeAsks, CodeDoes, Free}
-use Rattle.codegen.proofs.ArithmeticOps.{computed, computed_end}
+use Rattle.codegen.proofs.ArithmeticOps.{AreWords, Computes, computed_word}
 
 -- ---- shifts of numbers
 
@@ -282,13 +281,14 @@ module _ {by_bits : ℕ → ℕ → Second} {left : Second} {moved : ℕ → ℕ
           })))
 
   -- all of the code: R0 is R1, shifted by the amount's low byte
-  shift_owes : {s : Core} (line : ℕ) (z : ℤ) → IsGood s → Free image p st s → signed (moved (s.regs 0 % 256) (s.regs 1)) ≡ z
-      → Owes CodeAsks CodeDoes (shift_by by_bits ⨾ shift_out left ⨾ mov 0 (reg 1) ⨾ Skip) (Arrives image (computed (Ok z) line p st)) s
+  shift_owes : {s : Core} (line : ℕ) (z : ℤ) → AreWords s → Free image p st s → signed (moved (s.regs 0 % 256) (s.regs 1)) ≡ z
+      → Owes CodeAsks CodeDoes (shift_by by_bits ⨾ shift_out left ⨾ mov 0 (reg 1) ⨾ Skip) (Computes image (Ok z) line p st) s
   shift_owes {s} line z good f value =
       five_then (s.regs 0) (s.regs 1) (good.regs 1) (record { free = f; amount = refl; number = refl })
       (λ u shifting. out_then (s.regs 0) (s.regs 1) (good.regs 1) shifting
       (λ v shifted. set_then (v.regs 1) refl refl
-      (end_here (computed_end (Ok z) line z refl (record { holds = shifted.free.holds; numbers = shifted.free.numbers; texts = shifted.free.texts }) (ap signed shifted.number ∙ value)))))
+      (end_here (computed_word (Ok z) line z refl (record { holds = shifted.free.holds; numbers = shifted.free.numbers; texts = shifted.free.texts }) (ap signed shifted.number ∙ value)
+      (let word = laws.small (s.regs 0 % 256) (s.regs 1) (good.regs 1) in let is = shifted.number in omega (arith, word, is))))))
 
 -- ---- the operators
 
@@ -313,9 +313,9 @@ quotient_is n k word = by (cases_lt n (2 ^ 31))
         ∙ ap (λ m. negsuc m) (ap (λ m. 2 ^ 32 - suc m) (signed_high k n high) ∙ (let back : 2 ^ 32 - suc (2 ^ 32 - 1 - c / 2 ^ k) ≡ c / 2 ^ k = omega (arith, less) in back))
         ∙ ap (λ z. floor_quotient z (2 ^ k)) (ap (λ m. negsuc m) (let same : c ≡ 2 ^ 32 - suc n = omega arith in same) ∙ sym (signed-high n high))
 
-module _ {image : Site} {p : Pending} {st : State} {s : Core} (good : IsGood s) (f : Free image p st s) (line : ℕ) (fits : line < 65536) where
+module _ {image : Site} {p : Pending} {st : State} {s : Core} (good : AreWords s) (f : Free image p st s) (line : ℕ) (fits : line < 65536) where
   abbrev Owed : BinaryOp → Type 0
-  Owed o = Owes CodeAsks CodeDoes (binary_code o line) (Arrives image (computed (of_two o (signed (s.regs 1)) (signed (s.regs 0))) line p st)) s
+  Owed o = Owes CodeAsks CodeDoes (binary_code o line) (Computes image (of_two o (signed (s.regs 1)) (signed (s.regs 0))) line p st) s
 
   pub shift_left_owes : Owed op.ShiftLeft
   shift_left_owes = shift_owes left_shifts line _ good f (left_is (s.regs 1) (s.regs 0) (good.regs 1) (good.regs 0))

@@ -2,10 +2,12 @@
 use Rattle.std.proofs.Common.{◌≡◌, ℕ, suc, ◌+◌, ◌*◌, ◌<◌, ◌≤◌, ◌==◌, inl, inr, nat_le, if◌then◌else◌, Bool, true, false, ℤ, pos, ◌+ℤ◌, List, ◌∷◌, length, Option, None, Some, Result, Ok, Err, slice_index_or, refl, sym, ap, subst, ◌∙◌, arith, eqb-true}
 use Rattle.std.proofs.Math.Path.{transport}
 use Rattle.std.proofs.lemmas.Bool.{eqb-false, not-true, not-false, le-leb, lt-leb}
-use Rattle.bas_ir.specs.declared.op.Counter.{Counter}
+use Rattle.bas_store.specs.Entries.{cell_of}
+use Rattle.bas_store.specs.declared.cell.IntegerCell.{IntegerCell}
+use Rattle.bas_store.specs.declared.cell.IntegerCell.TheVariants as cells
 use Rattle.bas_ir.specs.declared.op.Op.TheVariants as o
 use Rattle.bas_ir.specs.Coded.{HasCounterWidth}
-use Rattle.bas_ir.specs.Effects.{Effect, cell_of, round_or_on}
+use Rattle.bas_ir.specs.Effects.{Effect, round_or_on}
 use Rattle.bas_ir.specs.Places.{nothing}
 use Rattle.bas_sem.specs.Actions.{or_raise, assign}
 use Rattle.bas_sem.specs.Course.{Course, Value, on_value, ◌>>◌, give}
@@ -28,7 +30,7 @@ use Rattle.code_frag.specs.Language as language
 use Rattle.code_frag.specs.Language.{Skip, When, LeaveTo, ◌⨾◌}
 use Rattle.code_frag.specs.Instructions.{num, cmp}
 use Rattle.code_frag.specs.Regions.{cells_start, arrays_start, opened_count_at}
-use Rattle.code_frag.proofs.Rules.{end_here, set_then, test_then, when_then, call_then}
+use Rattle.code_frag.proofs.Rules.{end_here, seq_then, skip_then, set_then, test_then, when_then, call_then}
 use Rattle.runtime_lib.specs.Opened.{opened_count, IsApart, IsVariable, variable_size, nearest, latest, next_number, goes_on, kind_of, step_of, limit_of, code_of, ComesBack, Turned, TurnsBy, TurnsEntry, turning_error}
 use Rattle.codegen.specs.Operations.{Named, op_code, raise_if_failed, turn, variable_address}
 use Rattle.codegen.specs.Outcomes.{Arrives}
@@ -36,7 +38,7 @@ use Rattle.codegen.specs.StandsFor.{ItemTable, Site, IsSite, IsCell, cell_at, ce
 use Rattle.codegen.proofs.Arriving.{CodeAsks, CodeDoes, load_then, over_by, raise_over, raised}
 use Rattle.codegen.proofs.CellLaws.{holds_resident_by, holds_integer_by}
 use Rattle.codegen.proofs.EntryLaws.{wanted, IsCloser, IsFound, SameFound, find_nearest}
-use Rattle.codegen.proofs.LoopOps.{branch_place, address-is, address-low}
+use Rattle.codegen.proofs.LoopOps.{branch_place, variable-is, address-low}
 use Rattle.codegen.proofs.OpenOps.{check_then, pending_after, holds_same}
 use Rattle.codegen.proofs.StateLaws.{entries_kept}
 
@@ -316,8 +318,11 @@ module _ {image : Site} {st : State} {s : Core} (site : IsSite image) (named : N
   pub next_any_owes : Owes CodeAsks CodeDoes (op_code named (o.NextAny line)) (Arrives image (Nexts st line (store.closing_error 0 AnyNext st.stored.opened) (store.nearest 0 AnyNext st.stored.opened))) s
   next_any_owes = set_then 0 refl refl (turn_owes site are line fits (record { holds = f.holds; numbers = f.numbers; texts = f.texts }) AnyNext tt tt refl)
 
-  pub next_owes : (counter : Counter) → HasCounterWidth counter → IsCloser (length st.stored.integers) (NextOf (cell_of counter))
+  pub next_owes : (counter : IntegerCell) → HasCounterWidth counter → IsCloser (length st.stored.integers) (NextOf (cell_of counter))
       → Owes CodeAsks CodeDoes (op_code named (o.Next counter line)) (Arrives image (Nexts st line (store.closing_error 0 (NextOf (cell_of counter)) st.stored.opened) (store.nearest 0 (NextOf (cell_of counter)) st.stored.opened))) s
-  next_owes counter width there =
-      load_then 1 (variable_address counter) (address-low counter width)
-      (turn_owes site are line fits (record { holds = f.holds; numbers = f.numbers; texts = f.texts }) (NextOf (cell_of counter)) tt there (address-is counter))
+  next_owes (cells.Resident index) width there =
+      seq_then (set_then (variable_address (cells.Resident index)) refl (variable-is index (s.regs 11) f.holds.base_is there)
+      (skip_then (turn_owes site are line fits (record { holds = f.holds; numbers = f.numbers; texts = f.texts }) (NextOf (Resident index)) tt there refl)))
+  next_owes (cells.Named name) width there =
+      load_then 1 (variable_address (cells.Named name)) (address-low (cells.Named name) width)
+      (turn_owes site are line fits (record { holds = f.holds; numbers = f.numbers; texts = f.texts }) (NextOf (Integer name)) tt there refl)

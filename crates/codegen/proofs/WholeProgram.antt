@@ -50,6 +50,8 @@ starts_marked ir (suc n) laid is =
 pub leads : (ir : Ir) → IsLaidOut ir → (n : ℕ) → n ≡ item_label (marks_in ir.marks) + 1 → (pc : ℕ) (op : Op) → slice_get ir.ops pc ≡ Some op → LeadsInto n op
 leads ir laid n labels pc (o.Go item) there = let few = starts_marked ir (length ir.starts) laid refl in omega (arith, labels, few, laid.reached pc (o.Go item) there)
 leads ir laid n labels pc (o.GoIfZero item) there = let few = starts_marked ir (length ir.starts) laid refl in omega (arith, labels, few, laid.reached pc (o.GoIfZero item) there)
+leads ir laid n labels pc (o.GoUnless relation item) there = let few = starts_marked ir (length ir.starts) laid refl in omega (arith, labels, few, laid.reached pc (o.GoUnless relation item) there)
+leads ir laid n labels pc (o.GoUnlessWith relation item number) there = let few = starts_marked ir (length ir.starts) laid refl in omega (arith, labels, few, laid.reached pc (o.GoUnlessWith relation item number) there)
 leads ir laid n labels pc (o.GoIfOne item) there = let few = starts_marked ir (length ir.starts) laid refl in omega (arith, labels, few, laid.reached pc (o.GoIfOne item) there)
 leads ir laid n labels pc (o.GosubIfOne line item) there = let few = starts_marked ir (length ir.starts) laid refl in omega (arith, labels, few, laid.reached pc (o.GosubIfOne line item) there)
 leads ir laid n labels pc (o.Gosub line item) there = let few = starts_marked ir (length ir.starts) laid refl in omega (arith, labels, few, laid.reached pc (o.Gosub line item) there)
@@ -61,6 +63,9 @@ leads ir laid n labels pc (o.PushInteger name line) there = tt
 leads ir laid n labels pc (o.PushText text) there = tt
 leads ir laid n labels pc (o.Unary op line) there = tt
 leads ir laid n labels pc (o.Binary op line) there = tt
+leads ir laid n labels pc (o.BinaryWith op line number) there = tt
+leads ir laid n labels pc (o.BinaryWithResident op resident line) there = tt
+leads ir laid n labels pc (o.ChangeResident op resident line number) there = tt
 leads ir laid n labels pc (o.StoreResident index) there = tt
 leads ir laid n labels pc (o.StoreInteger name) there = tt
 leads ir laid n labels pc (o.WriteNumber padded format) there = tt

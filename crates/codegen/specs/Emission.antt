@@ -14,6 +14,8 @@ with_code piece f = record { items = f.items ++ items piece; places = f.places }
 abbrev pub LeadsInto : ℕ → Op → Type 0
 LeadsInto n (o.Go item) = item_label item < n
 LeadsInto n (o.GoIfZero item) = item_label item < n
+LeadsInto n (o.GoUnless relation item) = item_label item < n
+LeadsInto n (o.GoUnlessWith relation item number) = item_label item < n
 LeadsInto n (o.GoIfOne item) = item_label item < n
 LeadsInto n (o.GosubIfOne line item) = item_label item < n
 LeadsInto n (o.GoIfEqual item) = item_label item < n

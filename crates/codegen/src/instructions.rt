@@ -1,7 +1,7 @@
 //! Items of pieces by short names, as they stand in `Instructions.antt` of `code_frag`, where a table has them; and the
 //! instructions whose fields the program decides. An operand is `num` with a number or the field of an immediate, `reg` with a
 //! register, or `lsl`, `lsr` or `asr` with a register and the bits that it is shifted by.
-ghost use Rattle.std.specs.Prelude.{◌≡◌, ◌<◌, OnOk, true, false};
+ghost use Rattle.std.specs.Prelude.{◌≡◌, ◌<◌, ◌^◌, OnOk, true, false};
 ghost use Rattle.arm_isa.specs.declared.instruction.Instr.TheVariants.{Data, Single};
 ghost use Rattle.arm_isa.specs.Numbers.{AL};
 ghost use Rattle.code_frag.specs.Language.{Do, Call, Leave, LeaveIf};
@@ -176,6 +176,35 @@ pub fn emit_process(
         imm: true,
         op,
         s: false,
+        rn,
+        rd,
+        op2: field,
+    })
+}
+
+/// Adds data processing of a register and an operand, a byte or a register, without flags or with them. The only
+/// error is want of memory.
+pub fn emit_data(
+    frag: &mut Frag,
+    s: bool,
+    op: u8,
+    rd: u8,
+    rn: u8,
+    imm: bool,
+    field: u16,
+) -> Result<(), NoMemory>
+    requires op { op < 16 }
+    requires rd { rd < 16 }
+    requires rn { rn < 16 }
+    requires field { field < 2 ^ 8 }
+    requires register { imm ≡ false → field < 2 ^ 4 }
+    ensures { OnOk result (frag.new ≡ with_code (Do (Data AL imm op s rn rd field)) frag.old) }
+{
+    frag.emit(&Instr::Data {
+        cond: AL,
+        imm,
+        op,
+        s,
         rn,
         rd,
         op2: field,

@@ -8,6 +8,7 @@ mod instructions;
 mod labels;
 mod loads;
 mod loops;
+mod operands;
 mod operations;
 mod operators;
 mod placing;

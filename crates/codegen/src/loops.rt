@@ -4,7 +4,8 @@ ghost use Rattle.bas_ir.specs.declared.op.Op.TheVariants as o;
 ghost use Rattle.code_frag.specs.Instructions.{num, mov};
 ghost use Rattle.code_frag.specs.Language.{◌⨾◌};
 ghost use Rattle.codegen.specs.Emission.{with_code, code_of, code_with};
-ghost use Rattle.codegen.specs.Operations.{raise_label, item_label, variable_address, open_entry, close_entry, turn};
+ghost use Rattle.codegen.specs.Operations.{raise_label, item_label, variable_address, find_variable, open_entry, close_entry, turn};
+ghost use Rattle.bas_store.specs.declared.cell.IntegerCell.TheVariants.{Named};
 
 use crate::instructions::{cmp, data, emit_process, ldr, leave_to, mov, over, pull, single, store};
 use crate::labels::{CLOSING_WORD, OPENING, TURNING, item_label};
@@ -12,7 +13,7 @@ use crate::loads::{emit_load, emit_operate, emit_raise};
 use crate::registers::{BASE, CELL_BYTES, CELLS, NUMBERS, OPENED_COUNT, RESIDENTS};
 use arm_isa::Instr;
 use arm_isa::numbers::{ADD, AL, CMP, EQ, GT, MOV, NE, R15, SUB};
-use bas_ir::Counter;
+use bas_store::IntegerCell;
 use bv_base::NoMemory;
 use code_frag::{Frag, Item};
 
@@ -23,13 +24,20 @@ pub const WHILE: u16 = 2;
 
 const GOSUB: u16 = 3;
 
-/// The address of a FOR's variable.
-fn variable_address(counter: Counter) -> u32
-    ensures { result ≡ variable_address counter }
+/// The address of a name's integer.
+fn name_address(name: u16) -> u32
+    ensures { result ≡ variable_address (Named name) }
+{
+    RESIDENTS + CELLS + CELL_BYTES * name as u32
+}
+
+/// Adds the code by which R1 takes the address of a FOR's variable. The only error is want of memory.
+fn emit_find_variable(frag: &mut Frag, counter: IntegerCell) -> Result<(), NoMemory>
+    ensures { OnOk result (frag.new ≡ with_code (find_variable counter) frag.old) }
 {
     match counter {
-        Counter::Resident(index) => RESIDENTS + 4 * index as u32,
-        Counter::Integer(name) => RESIDENTS + CELLS + CELL_BYTES * name as u32,
+        IntegerCell::Resident(index) => emit_process(frag, AL, ADD, 1, BASE, 4 * index as u16),
+        IntegerCell::Named(name) => emit_load(frag, 1, name_address(name)),
     }
 }
 
@@ -58,7 +66,7 @@ pub fn emit_open(frag: &mut Frag, kind: u16, back: u32, line: u16) -> Result<(),
 /// Adds the opening of a FOR. The only error is want of memory.
 pub fn emit_open_for(
     frag: &mut Frag,
-    counter: Counter,
+    counter: IntegerCell,
     back: u32,
     line: u16,
 ) -> Result<(), NoMemory>
@@ -66,7 +74,7 @@ pub fn emit_open_for(
     ensures { OnOk result (frag.new ≡ with_code (code_with 0 back (o.OpenFor counter line)) frag.old) }
 {
     frag.emit_all(&[mov!(4, reg 0), pull!(3, NUMBERS), pull!(0, NUMBERS)])?;
-    emit_load(frag, 1, variable_address(counter))?;
+    emit_find_variable(frag, counter)?;
     emit_open_entry(frag, back, line)
 }
 
@@ -143,11 +151,11 @@ fn emit_turn(frag: &mut Frag, line: u16) -> Result<(), NoMemory>
 }
 
 /// Adds the code of NEXT of a variable. The only error is want of memory.
-pub fn emit_next(frag: &mut Frag, counter: Counter, line: u16) -> Result<(), NoMemory>
+pub fn emit_next(frag: &mut Frag, counter: IntegerCell, line: u16) -> Result<(), NoMemory>
     requires { raise_label < length frag.old.places }
     ensures { OnOk result (frag.new ≡ with_code (code_of (o.Next counter line)) frag.old) }
 {
-    emit_load(frag, 1, variable_address(counter))?;
+    emit_find_variable(frag, counter)?;
     emit_turn(frag, line)
 }
 

@@ -18,6 +18,10 @@ use crate::loops::{
     REPEAT, WHILE, emit_end_while, emit_go_if_one, emit_gosub, emit_gosub_if_one, emit_next,
     emit_next_any, emit_open, emit_open_for, emit_raise_if_one, emit_return, emit_until,
 };
+use crate::operands::{
+    emit_binary_with, emit_binary_with_resident, emit_change_resident, emit_go_unless,
+    emit_go_unless_with,
+};
 use crate::operators::{emit_binary, emit_unary};
 use crate::registers::{BASE, COLUMN, NUMBERS, TEXT, TEXTS};
 use arm_isa::Instr;
@@ -69,7 +73,7 @@ fn emit_push_text(frag: &mut Frag, number: u32, address: u32) -> Result<(), NoMe
 }
 
 /// Adds an operator between the two topmost numbers. The only error is want of memory.
-fn emit_operator(frag: &mut Frag, op: BinaryOp, line: u16) -> Result<(), NoMemory>
+fn emit_two(frag: &mut Frag, op: BinaryOp, line: u16) -> Result<(), NoMemory>
     requires { raise_label < length frag.old.places }
     ensures { OnOk result (frag.new ≡ with_code (code_of (o.Binary op line)) frag.old) }
 {
@@ -265,7 +269,17 @@ pub fn emit_op(frag: &mut Frag, op: Op, text_address: u32, back: u32) -> Result<
         Op::PushInteger { name, line } => emit_push_integer(frag, name, line),
         Op::PushText(number) => emit_push_text(frag, number, text_address),
         Op::Unary { op, line } => emit_unary(frag, op, line),
-        Op::Binary { op, line } => emit_operator(frag, op, line),
+        Op::Binary { op, line } => emit_two(frag, op, line),
+        Op::BinaryWith { op, line, number } => emit_binary_with(frag, op, line, number),
+        Op::BinaryWithResident { op, resident, line } => {
+            emit_binary_with_resident(frag, op, resident, line)
+        }
+        Op::ChangeResident {
+            op,
+            resident,
+            line,
+            number,
+        } => emit_change_resident(frag, op, resident, line, number),
         Op::StoreResident(index) => emit_store_resident(frag, index),
         Op::StoreInteger(name) => emit_store_integer(frag, name),
         Op::WriteNumber { padded, format } => emit_write_number(frag, padded, format),
@@ -274,6 +288,12 @@ pub fn emit_op(frag: &mut Frag, op: Op, text_address: u32, back: u32) -> Result<
         Op::WriteMark(mark) => emit_write_mark(frag, mark),
         Op::Go(item) => frag.branch(AL, false, item_label(item)),
         Op::GoIfZero(item) => emit_go_if_zero(frag, item),
+        Op::GoUnless { relation, item } => emit_go_unless(frag, relation, item),
+        Op::GoUnlessWith {
+            relation,
+            item,
+            number,
+        } => emit_go_unless_with(frag, relation, item, number),
         Op::Discard => frag.emit_all(&[pull!(0, NUMBERS)]),
         Op::GoIfOne(item) => emit_go_if_one(frag, item),
         Op::GosubIfOne { line, item } => emit_gosub_if_one(frag, item, back, line),

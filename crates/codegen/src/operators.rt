@@ -1,11 +1,11 @@
 //! The pieces of operators: those between two numbers, and those before one.
-ghost use Rattle.std.specs.Prelude.{◌≡◌, ◌<◌, length, OnOk};
+ghost use Rattle.std.specs.Prelude.{◌≡◌, ◌<◌, ◌^◌, false, length, OnOk};
 ghost use Rattle.bas_ast.specs.declared.expressions.BinaryOp.TheVariants.{Compare};
 ghost use Rattle.bas_ast.specs.declared.expressions.UnaryOp.TheVariants.{Abs};
 ghost use Rattle.codegen.specs.Emission.{with_code};
-ghost use Rattle.codegen.specs.Operations.{raise_label, condition_of, binary_code, unary_code};
+ghost use Rattle.codegen.specs.Operations.{raise_label, condition_of, takes_operand, operator, binary_code, unary_code};
 
-use crate::instructions::{cmp, data, emit_process, mov, over, pull, tst};
+use crate::instructions::{cmp, data, emit_data, emit_process, mov, over, tst};
 use crate::labels::{MODULUS, PRODUCT, QUOTIENT};
 use crate::loads::{emit_operate, emit_raise_if_too_big};
 use arm_isa::Instr;
@@ -85,12 +85,84 @@ static SHIFT_RIGHT: [Item; 14] = [
     mov!(0, reg 1),
 ];
 
-/// Adds the code of a comparison. The only error is want of memory.
-fn emit_compare(frag: &mut Frag, comparison: Comparison) -> Result<(), NoMemory>
-    ensures { OnOk result (frag.new ≡ with_code (binary_code (Compare comparison) 0) frag.old) }
+/// Whether an operator's code takes any operand of an instruction, and no routine.
+pub fn takes_operand(op: BinaryOp) -> bool
+    ensures { result ≡ takes_operand op }
 {
-    frag.emit_all(&[cmp!(1, reg 0), mov!(0, num 0)])?;
-    emit_process(frag, condition_of(comparison), MVN, 0, 0, 0)
+    match op {
+        BinaryOp::Or
+        | BinaryOp::Eor
+        | BinaryOp::And
+        | BinaryOp::Compare(_)
+        | BinaryOp::Add
+        | BinaryOp::Subtract => true,
+        BinaryOp::ShiftLeft
+        | BinaryOp::ShiftRightSigned
+        | BinaryOp::ShiftRight
+        | BinaryOp::Multiply
+        | BinaryOp::Divide
+        | BinaryOp::Remainder => false,
+    }
+}
+
+/// Adds the code of a comparison between Rn and an operand, into Rd. The only error is want of memory.
+fn emit_compare(
+    frag: &mut Frag,
+    comparison: Comparison,
+    rd: u8,
+    rn: u8,
+    imm: bool,
+    field: u16,
+) -> Result<(), NoMemory>
+    requires rd { rd < 16 }
+    requires rn { rn < 16 }
+    requires field { field < 2 ^ 8 }
+    requires register { imm ≡ false → field < 2 ^ 4 }
+    ensures { OnOk result (frag.new ≡ with_code (operator rd rn (record { imm = imm; field = field }) (Compare comparison) 0) frag.old) }
+{
+    emit_data(frag, true, CMP, 0, rn, imm, field)?;
+    emit_process(frag, AL, MOV, rd, 0, 0)?;
+    emit_process(frag, condition_of(comparison), MVN, rd, 0, 0)
+}
+
+/// Adds the code of an operator that takes any operand, between Rn and one, into Rd; nothing for another operator. The operand is a byte or
+/// a register. The only error is want of memory.
+pub fn emit_operator(
+    frag: &mut Frag,
+    op: BinaryOp,
+    rd: u8,
+    rn: u8,
+    imm: bool,
+    field: u16,
+    line: u16,
+) -> Result<(), NoMemory>
+    requires raise { raise_label < length frag.old.places }
+    requires rd { rd < 16 }
+    requires rn { rn < 16 }
+    requires field { field < 2 ^ 8 }
+    requires register { imm ≡ false → field < 2 ^ 4 }
+    ensures { OnOk result (frag.new ≡ with_code (operator rd rn (record { imm = imm; field = field }) op line) frag.old) }
+{
+    match op {
+        BinaryOp::Or => emit_data(frag, false, ORR, rd, rn, imm, field),
+        BinaryOp::Eor => emit_data(frag, false, EOR, rd, rn, imm, field),
+        BinaryOp::And => emit_data(frag, false, AND, rd, rn, imm, field),
+        BinaryOp::Compare(comparison) => emit_compare(frag, comparison, rd, rn, imm, field),
+        BinaryOp::Add => {
+            emit_data(frag, true, ADD, rd, rn, imm, field)?;
+            emit_raise_if_too_big(frag, line)
+        }
+        BinaryOp::Subtract => {
+            emit_data(frag, true, SUB, rd, rn, imm, field)?;
+            emit_raise_if_too_big(frag, line)
+        }
+        BinaryOp::ShiftLeft
+        | BinaryOp::ShiftRightSigned
+        | BinaryOp::ShiftRight
+        | BinaryOp::Multiply
+        | BinaryOp::Divide
+        | BinaryOp::Remainder => frag.emit_all(&[]),
+    }
 }
 
 /// Adds the code of an operator between R1 and R0, into R0. The only error is want of memory.
@@ -99,21 +171,15 @@ pub fn emit_binary(frag: &mut Frag, op: BinaryOp, line: u16) -> Result<(), NoMem
     ensures { OnOk result (frag.new ≡ with_code (binary_code op line) frag.old) }
 {
     match op {
-        BinaryOp::Or => frag.emit_all(&[data!(AL, ORR, false, 0, 1, reg 0)]),
-        BinaryOp::Eor => frag.emit_all(&[data!(AL, EOR, false, 0, 1, reg 0)]),
-        BinaryOp::And => frag.emit_all(&[data!(AL, AND, false, 0, 1, reg 0)]),
-        BinaryOp::Compare(comparison) => emit_compare(frag, comparison),
+        BinaryOp::Or
+        | BinaryOp::Eor
+        | BinaryOp::And
+        | BinaryOp::Compare(_)
+        | BinaryOp::Add
+        | BinaryOp::Subtract => emit_operator(frag, op, 0, 1, false, 0, line),
         BinaryOp::ShiftLeft => frag.emit_all(&SHIFT_LEFT),
         BinaryOp::ShiftRightSigned => frag.emit_all(&SHIFT_RIGHT_SIGNED),
         BinaryOp::ShiftRight => frag.emit_all(&SHIFT_RIGHT),
-        BinaryOp::Add => {
-            frag.emit_all(&[data!(AL, ADD, true, 0, 1, reg 0)])?;
-            emit_raise_if_too_big(frag, line)
-        }
-        BinaryOp::Subtract => {
-            frag.emit_all(&[data!(AL, SUB, true, 0, 1, reg 0)])?;
-            emit_raise_if_too_big(frag, line)
-        }
         BinaryOp::Multiply => emit_operate(frag, PRODUCT, line),
         BinaryOp::Divide => emit_operate(frag, QUOTIENT, line),
         BinaryOp::Remainder => emit_operate(frag, MODULUS, line),

@@ -11,3 +11,6 @@ returns-in-OpenFor c = rw c.in-OpenFor.is c.emit_open_for.ensures
 
 pub returns-in-NextAny : goal.returns-in-NextAny
 returns-in-NextAny c = rw c.in-NextAny.is c.emit_next_any.ensures
+
+pub returns-in-Next : goal.returns-in-Next
+returns-in-Next c = rw c.in-Next.is c.emit_next.ensures
