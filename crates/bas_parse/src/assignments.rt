@@ -1,119 +1,106 @@
 //! Assignments, LET and SWAP.
 
 ghost use Rattle.std.specs.Prelude.{◌≡◌};
-ghost use Rattle.expr_parse.specs.Nests.{Reads};
+ghost use Rattle.expr_parse.specs.Reads.{Reads};
 ghost use Rattle.bas_parse.specs.Statements as spec;
 
-use crate::kept::{nothing, then, with};
+use crate::kept::{absent, nothing};
 use crate::marks::equals;
-use crate::rows::{ANumber, ATarget, AText};
 use crate::targets::target;
-use bas_ast::{Assignment, BinaryOp, Comparison, NumTarget, StrTarget, Target, Terminal};
-use expr_parse::{Front, comma};
+use bas_ast::{Assignment, BinaryOp, Comparison, Target, Terminal};
+use expr_parse::{Failure, comma, longest_num, longest_text, past, with};
 use std::alloc::Global;
 
 /// A value for a target after `=`.
 #[tactic(auto, unfolding(expr_parse::specs::Parse::on_front))]
-fn stored(alloc: Global, target: Target, list: &[Terminal]) -> Front<'_, Assignment>
-    ensures { Reads (spec.stored target list.now) result }
+fn stored(alloc: Global, target: Target, list: &mut &[Terminal]) -> Result<Assignment, Failure>
+    ensures { Reads (spec.stored target list.old.now) result list.new.now }
 {
     match target {
         Target::Number(number) => {
-            let Some((both, rest)) = then::<NumTarget, ANumber>(alloc, number, list)? else {
-                return Ok(None);
-            };
-            let (number, x) = both;
-            Ok(Some((Assignment::Number(number, x), rest)))
+            let (number, x) = with(number, longest_num(alloc, list))?;
+            Ok(Assignment::Number(number, x))
         }
         Target::Text(text) => {
-            let Some((both, rest)) = then::<StrTarget, AText>(alloc, text, list)? else {
-                return Ok(None);
-            };
-            let (text, y) = both;
-            Ok(Some((Assignment::Text(text, y), rest)))
+            let (text, y) = with(text, longest_text(alloc, list))?;
+            Ok(Assignment::Text(text, y))
         }
     }
 }
 
 /// A value for a target after `+=`.
 #[tactic(auto, unfolding(expr_parse::specs::Parse::on_front))]
-fn added(alloc: Global, target: Target, list: &[Terminal]) -> Front<'_, Assignment>
-    ensures { Reads (spec.added target list.now) result }
+fn added(alloc: Global, target: Target, list: &mut &[Terminal]) -> Result<Assignment, Failure>
+    ensures { Reads (spec.added target list.old.now) result list.new.now }
 {
     match target {
         Target::Number(number) => {
-            let Some((both, rest)) = then::<NumTarget, ANumber>(alloc, number, list)? else {
-                return Ok(None);
-            };
-            let (number, x) = both;
-            Ok(Some((Assignment::Add(number, x), rest)))
+            let (number, x) = with(number, longest_num(alloc, list))?;
+            Ok(Assignment::Add(number, x))
         }
         Target::Text(text) => {
-            let Some((both, rest)) = then::<StrTarget, AText>(alloc, text, list)? else {
-                return Ok(None);
-            };
-            let (text, y) = both;
-            Ok(Some((Assignment::Append(text, y), rest)))
+            let (text, y) = with(text, longest_text(alloc, list))?;
+            Ok(Assignment::Append(text, y))
         }
     }
 }
 
 /// A value for a target after `-=`.
 #[tactic(auto, unfolding(expr_parse::specs::Parse::on_front))]
-fn subtracted(alloc: Global, target: Target, list: &[Terminal]) -> Front<'_, Assignment>
-    ensures { Reads (spec.subtracted target list.now) result }
+fn subtracted(alloc: Global, target: Target, list: &mut &[Terminal]) -> Result<Assignment, Failure>
+    ensures { Reads (spec.subtracted target list.old.now) result list.new.now }
 {
     match target {
         Target::Number(number) => {
-            let Some((both, rest)) = then::<NumTarget, ANumber>(alloc, number, list)? else {
-                return Ok(None);
-            };
-            let (number, x) = both;
-            Ok(Some((Assignment::Subtract(number, x), rest)))
+            let (number, x) = with(number, longest_num(alloc, list))?;
+            Ok(Assignment::Subtract(number, x))
         }
-        Target::Text(text) => Ok(nothing(text)),
+        Target::Text(text) => absent(text),
     }
 }
 
 /// A sign and a value for a target.
 #[tactic(auto, unfolding(crate::specs::Statements::signed))]
-fn signed(alloc: Global, target: Target, list: &[Terminal]) -> Front<'_, Assignment>
-    ensures { Reads (spec.signed target list.now) result }
+fn signed(alloc: Global, target: Target, list: &mut &[Terminal]) -> Result<Assignment, Failure>
+    ensures { Reads (spec.signed target list.old.now) result list.new.now }
 {
-    match list {
+    match *list {
         [
             Terminal::Operator(BinaryOp::Compare(Comparison::Equal)),
             rest @ ..,
-        ] => { stored(alloc, target, rest) }
-        [Terminal::PlusEquals, rest @ ..] => added(alloc, target, rest),
-        [Terminal::MinusEquals, rest @ ..] => subtracted(alloc, target, rest),
-        _ => Ok(nothing(target)),
+        ] => {
+            *list = rest;
+            stored(alloc, target, list)
+        }
+        [Terminal::PlusEquals, rest @ ..] => {
+            *list = rest;
+            added(alloc, target, list)
+        }
+        [Terminal::MinusEquals, rest @ ..] => {
+            *list = rest;
+            subtracted(alloc, target, list)
+        }
+        _ => absent(target),
     }
 }
 
 /// An assignment by any of its signs.
 #[tactic(auto, unfolding(crate::specs::Statements::assignment_at, expr_parse::specs::Parse::on_front))]
-pub fn assignment(alloc: Global, list: &[Terminal]) -> Front<'_, Assignment>
-    ensures { Reads (spec.assignment_at list.now) result }
+pub fn assignment(alloc: Global, list: &mut &[Terminal]) -> Result<Assignment, Failure>
+    ensures { Reads (spec.assignment_at list.old.now) result list.new.now }
 {
-    let Some((target, rest)) = target(alloc, list)? else {
-        return Ok(None);
-    };
-    signed(alloc, target, rest)
+    let target = target(alloc, list)?;
+    signed(alloc, target, list)
 }
 
 /// What follows LET: an assignment by `=`.
 #[tactic(auto, unfolding(crate::specs::Statements::let_at, expr_parse::specs::Parse::on_front, expr_parse::specs::Parse::on_some))]
-pub fn let_assignment(alloc: Global, list: &[Terminal]) -> Front<'_, Assignment>
-    ensures { Reads (spec.let_at list.now) result }
+pub fn let_assignment(alloc: Global, list: &mut &[Terminal]) -> Result<Assignment, Failure>
+    ensures { Reads (spec.let_at list.old.now) result list.new.now }
 {
-    let Some((target, rest)) = target(alloc, list)? else {
-        return Ok(None);
-    };
-    let Some((target, after)) = with(target, equals(rest)) else {
-        return Ok(None);
-    };
-    stored(alloc, target, after)
+    let target = target(alloc, list)?;
+    let target = past(target, equals(list))?;
+    stored(alloc, target, list)
 }
 
 /// Two targets of one kind.
@@ -134,29 +121,22 @@ fn swapped(left: Target, right: Target) -> Option<Assignment>
 
 /// The second target of SWAP.
 #[tactic(auto, unfolding(expr_parse::specs::Parse::on_front, expr_parse::specs::Parse::on_some))]
-fn swap_with(alloc: Global, left: Target, list: &[Terminal]) -> Front<'_, Assignment>
-    ensures { Reads (spec.swap_with left list.now) result }
+fn swap_with(alloc: Global, left: Target, list: &mut &[Terminal]) -> Result<Assignment, Failure>
+    ensures { Reads (spec.swap_with left list.old.now) result list.new.now }
 {
-    let Some((both, rest)) = then::<Target, ATarget>(alloc, left, list)? else {
-        return Ok(None);
-    };
-    let (left, right) = both;
+    let (left, right) = with(left, target(alloc, list))?;
     match swapped(left, right) {
-        Some(swap) => Ok(Some((swap, rest))),
-        None => Ok(None),
+        Some(swap) => Ok(swap),
+        None => Err(Failure::Absent),
     }
 }
 
 /// What follows SWAP.
 #[tactic(auto, unfolding(crate::specs::Statements::swap_at, expr_parse::specs::Parse::on_front, expr_parse::specs::Parse::on_some))]
-pub fn swap(alloc: Global, list: &[Terminal]) -> Front<'_, Assignment>
-    ensures { Reads (spec.swap_at list.now) result }
+pub fn swap(alloc: Global, list: &mut &[Terminal]) -> Result<Assignment, Failure>
+    ensures { Reads (spec.swap_at list.old.now) result list.new.now }
 {
-    let Some((left, rest)) = target(alloc, list)? else {
-        return Ok(None);
-    };
-    let Some((left, after)) = with(left, comma(rest)) else {
-        return Ok(None);
-    };
-    swap_with(alloc, left, after)
+    let left = target(alloc, list)?;
+    let left = past(left, comma(list))?;
+    swap_with(alloc, left, list)
 }

@@ -1,12 +1,13 @@
-//! Single terminals at the front of a list, and where an item ends.
+//! Single terminals at the front of a list, and where an item ends. Where one is absent, the list stays as it was.
 
 ghost use Rattle.std.specs.Prelude.{◌≡◌};
-ghost use Rattle.std.specs.Option.{option_map};
 ghost use Rattle.bas_ast.specs.Lines.{continues};
 ghost use Rattle.bas_ast.specs.Statements.{joins};
+ghost use Rattle.expr_parse.specs.Reads.{Passes};
 ghost use Rattle.bas_parse.specs.Statements as spec;
 
 use bas_ast::{BinaryOp, Comparison, Keyword, Terminal};
+use expr_parse::Failure;
 
 /// Whether an item may end before a list: it is empty, or a `:` or an ELSE is next.
 pub fn ended(list: &[Terminal]) -> bool
@@ -44,65 +45,83 @@ pub fn continues(list: &[Terminal]) -> bool
     )
 }
 
-/// What stands after `=`.
-pub fn equals(list: &[Terminal]) -> Option<&[Terminal]>
-    ensures { option_map (λ rest. rest.now) result ≡ spec.after_equals list.now }
+/// `=`
+pub fn equals(list: &mut &[Terminal]) -> Result<(), Failure>
+    ensures { Passes (spec.after_equals list.old.now) result list.old.now list.new.now }
 {
-    match list {
+    match *list {
         [
             Terminal::Operator(BinaryOp::Compare(Comparison::Equal)),
             rest @ ..,
-        ] => Some(rest),
-        _ => None,
+        ] => {
+            *list = rest;
+            Ok(())
+        }
+        _ => Err(Failure::Absent),
     }
 }
 
-/// What stands after a semicolon.
-pub fn semicolon(list: &[Terminal]) -> Option<&[Terminal]>
-    ensures { option_map (λ rest. rest.now) result ≡ spec.after_semicolon list.now }
+/// A semicolon.
+pub fn semicolon(list: &mut &[Terminal]) -> Result<(), Failure>
+    ensures { Passes (spec.after_semicolon list.old.now) result list.old.now list.new.now }
 {
-    match list {
-        [Terminal::Semicolon, rest @ ..] => Some(rest),
-        _ => None,
+    match *list {
+        [Terminal::Semicolon, rest @ ..] => {
+            *list = rest;
+            Ok(())
+        }
+        _ => Err(Failure::Absent),
     }
 }
 
-/// What stands after a separator of INPUT.
-pub fn separator(list: &[Terminal]) -> Option<&[Terminal]>
-    ensures { option_map (λ rest. rest.now) result ≡ spec.after_separator list.now }
+/// A separator of INPUT.
+pub fn separator(list: &mut &[Terminal]) -> Result<(), Failure>
+    ensures { Passes (spec.after_separator list.old.now) result list.old.now list.new.now }
 {
-    match list {
-        [Terminal::Comma | Terminal::Semicolon, rest @ ..] => Some(rest),
-        _ => None,
+    match *list {
+        [Terminal::Comma | Terminal::Semicolon, rest @ ..] => {
+            *list = rest;
+            Ok(())
+        }
+        _ => Err(Failure::Absent),
     }
 }
 
-/// What stands after TO.
-pub fn to_word(list: &[Terminal]) -> Option<&[Terminal]>
-    ensures { option_map (λ rest. rest.now) result ≡ spec.after_to list.now }
+/// TO
+pub fn to_word(list: &mut &[Terminal]) -> Result<(), Failure>
+    ensures { Passes (spec.after_to list.old.now) result list.old.now list.new.now }
 {
-    match list {
-        [Terminal::Keyword(Keyword::To), rest @ ..] => Some(rest),
-        _ => None,
+    match *list {
+        [Terminal::Keyword(Keyword::To), rest @ ..] => {
+            *list = rest;
+            Ok(())
+        }
+        _ => Err(Failure::Absent),
     }
 }
 
-/// What stands after STEP.
-pub fn step_word(list: &[Terminal]) -> Option<&[Terminal]>
-    ensures { option_map (λ rest. rest.now) result ≡ spec.after_step list.now }
+/// STEP
+pub fn step_word(list: &mut &[Terminal]) -> Result<(), Failure>
+    ensures { Passes (spec.after_step list.old.now) result list.old.now list.new.now }
 {
-    match list {
-        [Terminal::Keyword(Keyword::Step), rest @ ..] => Some(rest),
-        _ => None,
+    match *list {
+        [Terminal::Keyword(Keyword::Step), rest @ ..] => {
+            *list = rest;
+            Ok(())
+        }
+        _ => Err(Failure::Absent),
     }
 }
 
-/// What stands after ERROR.
-pub fn error_word(list: &[Terminal]) -> Option<&[Terminal]>
-    ensures { option_map (λ rest. rest.now) result ≡ spec.after_error list.now }
+/// ERROR
+pub fn error_word(list: &mut &[Terminal]) -> Result<(), Failure>
+    ensures { Passes (spec.after_error list.old.now) result list.old.now list.new.now }
 {
-    match list {
-        [Terminal::Keyword(Keyword::Error), rest @ ..] => Some(rest),
-        _ => None,
+    match *list {
+        [Terminal::Keyword(Keyword::Error), rest @ ..] => {
+            *list = rest;
+            Ok(())
+        }
+        _ => Err(Failure::Absent),
     }
 }

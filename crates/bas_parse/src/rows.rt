@@ -2,7 +2,7 @@
 
 ghost use Rattle.std.specs.Prelude.{[]};
 ghost use Rattle.bas_ast.specs.declared.expressions.Any.{Any};
-ghost use Rattle.expr_parse.specs.Nests.{Reads};
+ghost use Rattle.expr_parse.specs.Reads.{Reads};
 ghost use Rattle.expr_parse.specs.Operands as expression;
 ghost use Rattle.bas_ast.specs.declared.expressions.NumExpr.{NumExpr};
 ghost use Rattle.bas_ast.specs.declared.expressions.StrExpr.{StrExpr};
@@ -12,7 +12,7 @@ ghost use Rattle.bas_parse.specs.Operands as spec;
 
 use crate::targets::{dim_part, int_name, line, simple, target};
 use bas_ast::{Any, DimPart, NumExpr, SimpleVariable, StrExpr, Target, Terminal};
-use expr_parse::{Front, comma, longest_any, longest_num, longest_text};
+use expr_parse::{Failure, comma, longest_any, longest_num, longest_text, pushed, with};
 use sqlite_items::Items;
 use std::alloc::Global;
 
@@ -24,54 +24,24 @@ pub trait Operand {
     /// What stands at the front of a list.
     ghost at_front: { Parser Self.Tree };
 
-    fn operand(alloc: Global, list: &[Terminal]) -> Front<'_, Self::Tree>
-        ensures { Reads (at_front list.now) result };
+    fn operand(alloc: Global, list: &mut &[Terminal]) -> Result<Self::Tree, Failure>
+        ensures { Reads (at_front list.old.now) result list.new.now };
 }
 
 /// One operand or more of a kind.
 #[tactic(auto, unfolding(crate::specs::Operands::list_of, expr_parse::specs::Parse::on_some))]
-pub fn list_of<O: Operand>(alloc: Global, list: &[Terminal]) -> Front<'_, Items<O::Tree>>
-    ensures { Reads (spec.list_of O.at_front list.now) result }
+pub fn list_of<O: Operand>(alloc: Global, list: &mut &[Terminal]) -> Result<Items<O::Tree>, Failure>
+    ensures { Reads (spec.list_of O.at_front list.old.now) result list.new.now }
 {
     let mut found = Items::new(alloc);
-    let mut rest = list;
     for _turn in 0..list.len() + 1 {
-        let Some((operand, after)) = O::operand(alloc, rest)? else {
-            return Ok(None);
-        };
-        found.push(operand)?;
-        let Some(after_comma) = comma(after) else {
-            return Ok(Some((found, after)));
-        };
-        rest = after_comma;
+        let (before, operand) = with(found, O::operand(alloc, list))?;
+        found = pushed(before, operand)?;
+        if comma(list).is_err() {
+            return Ok(found);
+        }
     }
-    Ok(None)
-}
-
-/// A number.
-pub struct ANumber;
-
-impl Operand for ANumber {
-    type Tree = NumExpr;
-
-    ghost at_front = { parse.longest_num };
-
-    fn operand(alloc: Global, list: &[Terminal]) -> Front<'_, NumExpr> {
-        longest_num(alloc, list)
-    }
-}
-
-/// A string.
-pub struct AText;
-
-impl Operand for AText {
-    type Tree = StrExpr;
-
-    ghost at_front = { parse.longest_text };
-
-    fn operand(alloc: Global, list: &[Terminal]) -> Front<'_, StrExpr> {
-        longest_text(alloc, list)
-    }
+    Err(Failure::Absent)
 }
 
 /// An expression of either kind.
@@ -82,7 +52,7 @@ impl Operand for AnExpression {
 
     ghost at_front = { expression.longest_any };
 
-    fn operand(alloc: Global, list: &[Terminal]) -> Front<'_, Any> {
+    fn operand(alloc: Global, list: &mut &[Terminal]) -> Result<Any, Failure> {
         longest_any(alloc, list)
     }
 }
@@ -95,7 +65,7 @@ impl Operand for ATarget {
 
     ghost at_front = { spec.target_at };
 
-    fn operand(alloc: Global, list: &[Terminal]) -> Front<'_, Target> {
+    fn operand(alloc: Global, list: &mut &[Terminal]) -> Result<Target, Failure> {
         target(alloc, list)
     }
 }
@@ -108,8 +78,8 @@ impl Operand for AVariable {
 
     ghost at_front = { spec.simple_at };
 
-    fn operand(_alloc: Global, list: &[Terminal]) -> Front<'_, SimpleVariable> {
-        Ok(simple(list))
+    fn operand(_alloc: Global, list: &mut &[Terminal]) -> Result<SimpleVariable, Failure> {
+        simple(list)
     }
 }
 
@@ -121,8 +91,8 @@ impl Operand for AnIntName {
 
     ghost at_front = { spec.int_name_at };
 
-    fn operand(_alloc: Global, list: &[Terminal]) -> Front<'_, u16> {
-        Ok(int_name(list))
+    fn operand(_alloc: Global, list: &mut &[Terminal]) -> Result<u16, Failure> {
+        int_name(list)
     }
 }
 
@@ -134,7 +104,7 @@ impl Operand for ADimPart {
 
     ghost at_front = { spec.dim_part_at };
 
-    fn operand(alloc: Global, list: &[Terminal]) -> Front<'_, DimPart> {
+    fn operand(alloc: Global, list: &mut &[Terminal]) -> Result<DimPart, Failure> {
         dim_part(alloc, list)
     }
 }
@@ -147,20 +117,7 @@ impl Operand for ALine {
 
     ghost at_front = { spec.line_at };
 
-    fn operand(_alloc: Global, list: &[Terminal]) -> Front<'_, u16> {
-        Ok(line(list))
-    }
-}
-
-/// References to lines, with commas between.
-pub struct Lines;
-
-impl Operand for Lines {
-    type Tree = Items<u16>;
-
-    ghost at_front = { spec.list_of spec.line_at };
-
-    fn operand(alloc: Global, list: &[Terminal]) -> Front<'_, Items<u16>> {
-        list_of::<ALine>(alloc, list)
+    fn operand(_alloc: Global, list: &mut &[Terminal]) -> Result<u16, Failure> {
+        line(list)
     }
 }

@@ -1,7 +1,7 @@
 //! Runs of a line: from the line's start or from a `]`, to its end or to a `[`.
 
 ghost use Rattle.std.specs.Prelude.{◌≡◌, [], IfOk};
-ghost use Rattle.expr_parse.specs.Nests.{Reads};
+ghost use Rattle.expr_parse.specs.Reads.{Reads};
 ghost use Rattle.bas_parse.specs.Parsed.{RunParsed};
 ghost use Rattle.bas_parse.specs.Runs as spec;
 
@@ -10,7 +10,7 @@ use crate::place::Place;
 use crate::rows::{AnExpression, list_of};
 use crate::steps::{Step, step};
 use bas_ast::{Formal, Head, Item, Keyword, Terminal};
-use expr_parse::{Front, ParseError};
+use expr_parse::{Failure, ParseError, optional, pushed, with};
 use sqlite_items::Items;
 use std::alloc::{AllocError, Global};
 
@@ -18,11 +18,10 @@ use std::alloc::{AllocError, Global};
 fn with_found(found: Items<Item>, item: Option<Item>) -> Result<Items<Item>, AllocError>
     ensures { IfOk result (λ items. items ≡ spec.with_found found item) }
 {
-    let mut items = found;
-    if let Some(item) = item {
-        items.push(item)?;
+    match item {
+        Some(item) => pushed(found, item),
+        None => Ok(found),
     }
-    Ok(items)
 }
 
 /// The items so far, where nothing is left.
@@ -48,13 +47,16 @@ fn items(
     let mut place = place;
     let mut rest = list;
     for _turn in 0..list.len() {
-        let Some((step, after)) = step(alloc, place, rest)? else {
-            return Ok(at_end(found, rest));
-        };
-        let (item, next) = step;
-        found = with_found(found, item)?;
-        place = next;
-        rest = after;
+        let mut after = rest;
+        let (before, next) = with(found, optional(step(alloc, place, &mut after)))?;
+        match next {
+            Some((item, place_after)) => {
+                found = with_found(before, item)?;
+                place = place_after;
+                rest = after;
+            }
+            None => return Ok(at_end(before, rest)),
+        }
     }
     Ok(at_end(found, rest))
 }
@@ -68,62 +70,64 @@ fn begun(head: Head) -> Step
 
 /// The head of a procedure with its formal parameters.
 #[tactic(auto, unfolding(expr_parse::specs::Parse::on_front))]
-fn def_procedure(alloc: Global, name: u16, list: &[Terminal]) -> Front<'_, Step>
-    ensures { Reads (spec.def_procedure name list.now) result }
+fn def_procedure(alloc: Global, name: u16, list: &mut &[Terminal]) -> Result<Step, Failure>
+    ensures { Reads (spec.def_procedure name list.old.now) result list.new.now }
 {
-    let Some((formals, rest)) = formals(alloc, list)? else {
-        return Ok(None);
-    };
-    Ok(Some((begun(Head::DefProcedure(name, formals)), rest)))
+    let formals = formals(alloc, list)?;
+    Ok(begun(Head::DefProcedure(name, formals)))
 }
 
 /// The head of a function with its formal parameters.
 #[tactic(auto, unfolding(expr_parse::specs::Parse::on_front))]
-fn def_function(alloc: Global, name: u16, list: &[Terminal]) -> Front<'_, Step>
-    ensures { Reads (spec.def_function name list.now) result }
+fn def_function(alloc: Global, name: u16, list: &mut &[Terminal]) -> Result<Step, Failure>
+    ensures { Reads (spec.def_function name list.old.now) result list.new.now }
 {
-    let Some((formals, rest)) = formals(alloc, list)? else {
-        return Ok(None);
-    };
-    Ok(Some((begun(Head::DefFunction(name, formals)), rest)))
+    let formals = formals(alloc, list)?;
+    Ok(begun(Head::DefFunction(name, formals)))
 }
 
 /// What stands after DEF.
 #[tactic(auto, unfolding(crate::specs::Runs::def_at))]
-fn def(alloc: Global, list: &[Terminal]) -> Front<'_, Step>
-    ensures { Reads (spec.def_at list.now) result }
+fn def(alloc: Global, list: &mut &[Terminal]) -> Result<Step, Failure>
+    ensures { Reads (spec.def_at list.old.now) result list.new.now }
 {
-    match list {
+    match *list {
         [Terminal::Procedure(name), rest @ ..] => {
+            *list = rest;
             let formals: Items<Formal> = Items::new(alloc);
-            Ok(Some((begun(Head::DefProcedure(*name, formals)), rest)))
+            Ok(begun(Head::DefProcedure(*name, formals)))
         }
         [
             Terminal::NumFunction(name) | Terminal::StrFunction(name),
             rest @ ..,
         ] => {
+            *list = rest;
             let formals: Items<Formal> = Items::new(alloc);
-            Ok(Some((begun(Head::DefFunction(*name, formals)), rest)))
+            Ok(begun(Head::DefFunction(*name, formals)))
         }
-        [Terminal::ProcedureOpen(name), rest @ ..] => def_procedure(alloc, *name, rest),
+        [Terminal::ProcedureOpen(name), rest @ ..] => {
+            *list = rest;
+            def_procedure(alloc, *name, list)
+        }
         [
             Terminal::NumFunctionOpen(name) | Terminal::StrFunctionOpen(name),
             rest @ ..,
-        ] => { def_function(alloc, *name, rest) }
-        _ => Ok(None),
+        ] => {
+            *list = rest;
+            def_function(alloc, *name, list)
+        }
+        _ => Err(Failure::Absent),
     }
 }
 
 /// What stands after WHEN.
 #[tactic(auto, unfolding(expr_parse::specs::Parse::on_front))]
-fn when(alloc: Global, list: &[Terminal]) -> Front<'_, Step>
-    ensures { Reads (spec.when_at list.now) result }
+fn when(alloc: Global, list: &mut &[Terminal]) -> Result<Step, Failure>
+    ensures { Reads (spec.when_at list.old.now) result list.new.now }
 {
-    let Some((values, rest)) = list_of::<AnExpression>(alloc, list)? else {
-        return Ok(None);
-    };
+    let values = list_of::<AnExpression>(alloc, list)?;
     let head = Item::Head(Head::When(values));
-    Ok(Some(((Some(head), Place::line_start().after_item()), rest)))
+    Ok((Some(head), Place::line_start().after_item()))
 }
 
 /// A head that needs a `:` after it.
@@ -135,26 +139,39 @@ fn ended_head(head: Head) -> Step
 
 /// What begins a run: a head, a `]`, or nothing that is read yet.
 #[tactic(auto, unfolding(crate::specs::Runs::first_step, crate::specs::Runs::head_at))]
-fn first_step(alloc: Global, list: &[Terminal]) -> Front<'_, Step>
-    ensures { Reads (spec.first_step list.now) result }
+fn first_step(alloc: Global, list: &mut &[Terminal]) -> Result<Step, Failure>
+    ensures { Reads (spec.first_step list.old.now) result list.new.now }
 {
-    match list {
-        [Terminal::Keyword(Keyword::Def), rest @ ..] => def(alloc, rest),
-        [Terminal::Keyword(Keyword::When), rest @ ..] => when(alloc, rest),
+    match *list {
+        [Terminal::Keyword(Keyword::Def), rest @ ..] => {
+            *list = rest;
+            def(alloc, list)
+        }
+        [Terminal::Keyword(Keyword::When), rest @ ..] => {
+            *list = rest;
+            when(alloc, list)
+        }
         [Terminal::Keyword(Keyword::Otherwise), rest @ ..] => {
-            Ok(Some((begun(Head::Otherwise), rest)))
+            *list = rest;
+            Ok(begun(Head::Otherwise))
         }
         [Terminal::Keyword(Keyword::BlockElse), rest @ ..] => {
-            Ok(Some((begun(Head::BlockElse), rest)))
+            *list = rest;
+            Ok(begun(Head::BlockElse))
         }
-        [Terminal::Keyword(Keyword::EndIf), rest @ ..] => Ok(Some((ended_head(Head::EndIf), rest))),
+        [Terminal::Keyword(Keyword::EndIf), rest @ ..] => {
+            *list = rest;
+            Ok(ended_head(Head::EndIf))
+        }
         [Terminal::Keyword(Keyword::EndCase), rest @ ..] => {
-            Ok(Some((ended_head(Head::EndCase), rest)))
+            *list = rest;
+            Ok(ended_head(Head::EndCase))
         }
         [Terminal::CloseSquare, rest @ ..] => {
-            Ok(Some(((Some(Item::EndAssembly), Place::after_ruling()), rest)))
+            *list = rest;
+            Ok((Some(Item::EndAssembly), Place::after_ruling()))
         }
-        _ => Ok(Some(((None, Place::line_start()), list))),
+        _ => Ok((None, Place::line_start())),
     }
 }
 
@@ -163,12 +180,14 @@ fn first_step(alloc: Global, list: &[Terminal]) -> Front<'_, Step>
 fn run_items(alloc: Global, list: &[Terminal]) -> Result<Option<Items<Item>>, AllocError>
     ensures { IfOk result (λ found. found ≡ spec.run_items list.now) }
 {
-    let Some((step, rest)) = first_step(alloc, list)? else {
-        return Ok(None);
-    };
-    let (item, place) = step;
-    let found = with_found(Items::new(alloc), item)?;
-    items(alloc, place, found, rest)
+    let mut rest = list;
+    match optional(first_step(alloc, &mut rest))? {
+        Some((item, place)) => {
+            let found = with_found(Items::new(alloc), item)?;
+            items(alloc, place, found, rest)
+        }
+        None => Ok(None),
+    }
 }
 
 /// The items of a run of a line: from the line's start or from a `]`, to its end or to a `[`.

@@ -1,7 +1,7 @@
 //! Plain statements.
 
 ghost use Rattle.std.specs.Prelude.{[]};
-ghost use Rattle.expr_parse.specs.Nests.{Reads};
+ghost use Rattle.expr_parse.specs.Reads.{Reads};
 ghost use Rattle.bas_parse.specs.Statements as spec;
 
 use crate::assignments::{assignment, let_assignment, swap};
@@ -10,119 +10,123 @@ use crate::parts::{input, print, vdu};
 use crate::rows::{AnIntName, list_of};
 use crate::words::{NumberWord, dim, gosub, goto, local, number_word, raise, read};
 use bas_ast::{BinaryOp, Call, Comparison, ErrorStmt, Flow, Keyword, Output, Stmt, Terminal};
-use expr_parse::{Front, longest_any, whole_arguments};
+use expr_parse::{Failure, longest_any, optional, whole_arguments};
 use sqlite_items::Items;
 use std::alloc::Global;
 
 /// What follows NEXT.
 #[tactic(auto, unfolding(expr_parse::specs::Parse::or_front))]
-fn next(alloc: Global, list: &[Terminal]) -> Front<'_, Stmt>
-    ensures { Reads (spec.next_at list.now) result }
+fn next(alloc: Global, list: &mut &[Terminal]) -> Result<Stmt, Failure>
+    ensures { Reads (spec.next_at list.old.now) result list.new.now }
 {
-    match list_of::<AnIntName>(alloc, list)? {
-        Some((names, rest)) => Ok(Some((Stmt::Flow(Flow::Next(names)), rest))),
-        None => Ok(Some((Stmt::Flow(Flow::Next(Items::new(alloc))), list))),
+    let mut after = *list;
+    match optional(list_of::<AnIntName>(alloc, &mut after))? {
+        Some(names) => {
+            *list = after;
+            Ok(Stmt::Flow(Flow::Next(names)))
+        }
+        None => Ok(Stmt::Flow(Flow::Next(Items::new(alloc)))),
     }
 }
 
 /// What follows RESTORE.
 #[tactic(auto, unfolding(crate::specs::Statements::restore_at))]
-fn restore(list: &[Terminal]) -> Front<'_, Stmt>
-    ensures { Reads (spec.restore_at list.now) result }
+fn restore(list: &mut &[Terminal]) -> Result<Stmt, Failure>
+    ensures { Reads (spec.restore_at list.old.now) result list.new.now }
 {
-    match list {
+    match *list {
         [Terminal::Keyword(Keyword::Error), rest @ ..] => {
-            Ok(Some((Stmt::Error(ErrorStmt::RestoreError), rest)))
+            *list = rest;
+            Ok(Stmt::Error(ErrorStmt::RestoreError))
         }
-        [Terminal::LineRef(number), rest @ ..] => Ok(Some((Stmt::Restore(Some(*number)), rest))),
-        _ => Ok(Some((Stmt::Restore(None), list))),
+        [Terminal::LineRef(number), rest @ ..] => {
+            *list = rest;
+            Ok(Stmt::Restore(Some(*number)))
+        }
+        _ => Ok(Stmt::Restore(None)),
     }
 }
 
 /// What follows ON, where that is ON ERROR OFF.
 #[tactic(auto, unfolding(crate::specs::Statements::error_off_at))]
-fn error_off(list: &[Terminal]) -> Front<'_, Stmt>
-    ensures { Reads (spec.error_off_at list.now) result }
+fn error_off(list: &mut &[Terminal]) -> Result<Stmt, Failure>
+    ensures { Reads (spec.error_off_at list.old.now) result list.new.now }
 {
-    match list {
+    match *list {
         [
             Terminal::Keyword(Keyword::Error),
             Terminal::Keyword(Keyword::Off),
             rest @ ..,
-        ] => { Ok(Some((Stmt::Error(ErrorStmt::OnErrorOff), rest))) }
-        _ => Ok(None),
+        ] => {
+            *list = rest;
+            Ok(Stmt::Error(ErrorStmt::OnErrorOff))
+        }
+        _ => Err(Failure::Absent),
     }
 }
 
 /// The parts of INPUT or of INPUT LINE.
 #[tactic(auto, unfolding(expr_parse::specs::Parse::on_front))]
-fn input_parts(alloc: Global, line: bool, list: &[Terminal]) -> Front<'_, Stmt>
-    ensures { Reads (spec.input_parts line list.now) result }
+fn input_parts(alloc: Global, line: bool, list: &mut &[Terminal]) -> Result<Stmt, Failure>
+    ensures { Reads (spec.input_parts line list.old.now) result list.new.now }
 {
-    let Some((parts, rest)) = input(alloc, list)? else {
-        return Ok(None);
-    };
-    Ok(Some((Stmt::Input(line, parts), rest)))
+    let parts = input(alloc, list)?;
+    Ok(Stmt::Input(line, parts))
 }
 
 /// What follows INPUT.
 #[tactic(auto, unfolding(crate::specs::Statements::input_stmt_at))]
-fn input_stmt(alloc: Global, list: &[Terminal]) -> Front<'_, Stmt>
-    ensures { Reads (spec.input_stmt_at list.now) result }
+fn input_stmt(alloc: Global, list: &mut &[Terminal]) -> Result<Stmt, Failure>
+    ensures { Reads (spec.input_stmt_at list.old.now) result list.new.now }
 {
-    match list {
-        [Terminal::Keyword(Keyword::Line), rest @ ..] => input_parts(alloc, true, rest),
+    match *list {
+        [Terminal::Keyword(Keyword::Line), rest @ ..] => {
+            *list = rest;
+            input_parts(alloc, true, list)
+        }
         _ => input_parts(alloc, false, list),
     }
 }
 
 /// What follows LET, as a statement.
 #[tactic(auto, unfolding(expr_parse::specs::Parse::on_front))]
-fn let_stmt(alloc: Global, list: &[Terminal]) -> Front<'_, Stmt>
-    ensures { Reads (spec.own_form Keyword.Let list.now) result }
+fn let_stmt(alloc: Global, list: &mut &[Terminal]) -> Result<Stmt, Failure>
+    ensures { Reads (spec.own_form Keyword.Let list.old.now) result list.new.now }
 {
-    let Some((stored, rest)) = let_assignment(alloc, list)? else {
-        return Ok(None);
-    };
-    Ok(Some((Stmt::Assign(stored), rest)))
+    let stored = let_assignment(alloc, list)?;
+    Ok(Stmt::Assign(stored))
 }
 
 /// What follows SWAP, as a statement.
 #[tactic(auto, unfolding(expr_parse::specs::Parse::on_front))]
-fn swap_stmt(alloc: Global, list: &[Terminal]) -> Front<'_, Stmt>
-    ensures { Reads (spec.own_form Keyword.Swap list.now) result }
+fn swap_stmt(alloc: Global, list: &mut &[Terminal]) -> Result<Stmt, Failure>
+    ensures { Reads (spec.own_form Keyword.Swap list.old.now) result list.new.now }
 {
-    let Some((swap, rest)) = swap(alloc, list)? else {
-        return Ok(None);
-    };
-    Ok(Some((Stmt::Assign(swap), rest)))
+    let swap = swap(alloc, list)?;
+    Ok(Stmt::Assign(swap))
 }
 
 /// What follows PRINT, as a statement.
 #[tactic(auto, unfolding(expr_parse::specs::Parse::on_front))]
-fn print_stmt(alloc: Global, list: &[Terminal]) -> Front<'_, Stmt>
-    ensures { Reads (spec.own_form Keyword.Print list.now) result }
+fn print_stmt(alloc: Global, list: &mut &[Terminal]) -> Result<Stmt, Failure>
+    ensures { Reads (spec.own_form Keyword.Print list.old.now) result list.new.now }
 {
-    let Some((parts, rest)) = print(alloc, list)? else {
-        return Ok(None);
-    };
-    Ok(Some((Stmt::Output(Output::Print(parts)), rest)))
+    let parts = print(alloc, list)?;
+    Ok(Stmt::Output(Output::Print(parts)))
 }
 
 /// What follows VDU, as a statement.
 #[tactic(auto, unfolding(expr_parse::specs::Parse::on_front))]
-fn vdu_stmt(alloc: Global, list: &[Terminal]) -> Front<'_, Stmt>
-    ensures { Reads (spec.own_form Keyword.Vdu list.now) result }
+fn vdu_stmt(alloc: Global, list: &mut &[Terminal]) -> Result<Stmt, Failure>
+    ensures { Reads (spec.own_form Keyword.Vdu list.old.now) result list.new.now }
 {
-    let Some((parts, rest)) = vdu(alloc, list)? else {
-        return Ok(None);
-    };
-    Ok(Some((Stmt::Output(Output::Vdu(parts)), rest)))
+    let parts = vdu(alloc, list)?;
+    Ok(Stmt::Output(Output::Vdu(parts)))
 }
 
 /// What follows a word with punctuation of its own.
-fn own_word(alloc: Global, word: Keyword, list: &[Terminal]) -> Front<'_, Stmt>
-    ensures { Reads (spec.own_form word list.now) result }
+fn own_word(alloc: Global, word: Keyword, list: &mut &[Terminal]) -> Result<Stmt, Failure>
+    ensures { Reads (spec.own_form word list.old.now) result list.new.now }
 {
     match word {
         Keyword::Let => let_stmt(alloc, list),
@@ -134,24 +138,24 @@ fn own_word(alloc: Global, word: Keyword, list: &[Terminal]) -> Front<'_, Stmt>
         Keyword::Print => print_stmt(alloc, list),
         Keyword::Vdu => vdu_stmt(alloc, list),
         Keyword::Input => input_stmt(alloc, list),
-        _ => Ok(None),
+        _ => Err(Failure::Absent),
     }
 }
 
 /// What follows a statement's word.
 #[tactic(auto, unfolding(crate::specs::Statements::word_at))]
-fn word(alloc: Global, word: Keyword, list: &[Terminal]) -> Front<'_, Stmt>
-    ensures { Reads (spec.word_at word list.now) result }
+fn word(alloc: Global, word: Keyword, list: &mut &[Terminal]) -> Result<Stmt, Failure>
+    ensures { Reads (spec.word_at word list.old.now) result list.new.now }
 {
     match word {
-        Keyword::Return => Ok(Some((Stmt::Flow(Flow::Return), list))),
-        Keyword::EndWhile => Ok(Some((Stmt::Flow(Flow::EndWhile), list))),
-        Keyword::End => Ok(Some((Stmt::Flow(Flow::End), list))),
-        Keyword::Stop => Ok(Some((Stmt::Flow(Flow::Stop), list))),
-        Keyword::Quit => Ok(Some((Stmt::Flow(Flow::Quit), list))),
-        Keyword::EndProc => Ok(Some((Stmt::Call(Call::EndProcedure), list))),
-        Keyword::Report => Ok(Some((Stmt::Error(ErrorStmt::Report), list))),
-        Keyword::Cls => Ok(Some((Stmt::Output(Output::Cls), list))),
+        Keyword::Return => Ok(Stmt::Flow(Flow::Return)),
+        Keyword::EndWhile => Ok(Stmt::Flow(Flow::EndWhile)),
+        Keyword::End => Ok(Stmt::Flow(Flow::End)),
+        Keyword::Stop => Ok(Stmt::Flow(Flow::Stop)),
+        Keyword::Quit => Ok(Stmt::Flow(Flow::Quit)),
+        Keyword::EndProc => Ok(Stmt::Call(Call::EndProcedure)),
+        Keyword::Report => Ok(Stmt::Error(ErrorStmt::Report)),
+        Keyword::Cls => Ok(Stmt::Output(Output::Cls)),
         Keyword::Goto => goto(list),
         Keyword::Gosub => gosub(list),
         Keyword::Until => number_word(alloc, NumberWord::Until, list),
@@ -169,53 +173,57 @@ fn word(alloc: Global, word: Keyword, list: &[Terminal]) -> Front<'_, Stmt>
 
 /// A call of a procedure, after its name.
 #[tactic(auto, unfolding(expr_parse::specs::Parse::on_front))]
-fn procedure(alloc: Global, name: u16, list: &[Terminal]) -> Front<'_, Stmt>
-    ensures { Reads (spec.procedure name list.now) result }
+fn procedure(alloc: Global, name: u16, list: &mut &[Terminal]) -> Result<Stmt, Failure>
+    ensures { Reads (spec.procedure name list.old.now) result list.new.now }
 {
-    let Some((arguments, rest)) = whole_arguments(alloc, list)? else {
-        return Ok(None);
-    };
-    Ok(Some((Stmt::Call(Call::Procedure(name, arguments)), rest)))
+    let arguments = whole_arguments(alloc, list)?;
+    Ok(Stmt::Call(Call::Procedure(name, arguments)))
 }
 
 /// A function's value, after `=`.
 #[tactic(auto, unfolding(expr_parse::specs::Parse::on_front))]
-fn result(alloc: Global, list: &[Terminal]) -> Front<'_, Stmt>
-    ensures { Reads (spec.result list.now) result }
+fn result(alloc: Global, list: &mut &[Terminal]) -> Result<Stmt, Failure>
+    ensures { Reads (spec.result list.old.now) result list.new.now }
 {
-    let Some((value, rest)) = longest_any(alloc, list)? else {
-        return Ok(None);
-    };
-    Ok(Some((Stmt::Call(Call::Result(value)), rest)))
+    let value = longest_any(alloc, list)?;
+    Ok(Stmt::Call(Call::Result(value)))
 }
 
 /// An assignment, as a statement.
 #[tactic(auto, unfolding(expr_parse::specs::Parse::on_front))]
-fn assign(alloc: Global, list: &[Terminal]) -> Front<'_, Stmt>
-    ensures { Reads (spec.assign list.now) result }
+fn assign(alloc: Global, list: &mut &[Terminal]) -> Result<Stmt, Failure>
+    ensures { Reads (spec.assign list.old.now) result list.new.now }
 {
-    let Some((stored, rest)) = assignment(alloc, list)? else {
-        return Ok(None);
-    };
-    Ok(Some((Stmt::Assign(stored), rest)))
+    let stored = assignment(alloc, list)?;
+    Ok(Stmt::Assign(stored))
 }
 
 /// A plain statement.
 #[tactic(auto, unfolding(crate::specs::Statements::stmt_at))]
-pub fn stmt(alloc: Global, list: &[Terminal]) -> Front<'_, Stmt>
-    ensures { Reads (spec.stmt_at list.now) result }
+pub fn stmt(alloc: Global, list: &mut &[Terminal]) -> Result<Stmt, Failure>
+    ensures { Reads (spec.stmt_at list.old.now) result list.new.now }
 {
-    match list {
-        [Terminal::Keyword(keyword), rest @ ..] => word(alloc, *keyword, rest),
-        [Terminal::Procedure(name), rest @ ..] => {
-            let call = Call::Procedure(*name, Items::new(alloc));
-            Ok(Some((Stmt::Call(call), rest)))
+    match *list {
+        [Terminal::Keyword(keyword), rest @ ..] => {
+            *list = rest;
+            word(alloc, *keyword, list)
         }
-        [Terminal::ProcedureOpen(name), rest @ ..] => procedure(alloc, *name, rest),
+        [Terminal::Procedure(name), rest @ ..] => {
+            *list = rest;
+            let call = Call::Procedure(*name, Items::new(alloc));
+            Ok(Stmt::Call(call))
+        }
+        [Terminal::ProcedureOpen(name), rest @ ..] => {
+            *list = rest;
+            procedure(alloc, *name, list)
+        }
         [
             Terminal::Operator(BinaryOp::Compare(Comparison::Equal)),
             rest @ ..,
-        ] => { result(alloc, rest) }
+        ] => {
+            *list = rest;
+            result(alloc, list)
+        }
         _ => assign(alloc, list),
     }
 }

@@ -1,16 +1,16 @@
 //! The items of a line, one by one.
 
 ghost use Rattle.std.specs.Prelude.{◌≡◌};
-ghost use Rattle.expr_parse.specs.Nests.{Reads};
+ghost use Rattle.expr_parse.specs.Reads.{Reads};
 ghost use Rattle.bas_parse.specs.Steps as spec;
 
-use crate::kept::{nothing, then};
+use crate::kept::absent;
 use crate::marks::{continues, ended};
 use crate::place::Place;
-use crate::rows::Lines;
+use crate::rows::{ALine, list_of};
 use crate::statements::stmt;
 use bas_ast::{Any, ErrorStmt, Flow, Item, Jump, Keyword, NumExpr, Stmt, Terminal};
-use expr_parse::{Front, longest_any, longest_num};
+use expr_parse::{Failure, longest_any, longest_num, with};
 use std::alloc::Global;
 
 /// What a step finds: an item, or none where it is a `:`, and the place after it.
@@ -28,64 +28,66 @@ fn then_item(x: NumExpr, list: &[Terminal]) -> Item
 
 /// What follows the condition of IF.
 #[tactic(auto, unfolding(crate::specs::Steps::condition_step))]
-fn condition_step(x: NumExpr, list: &[Terminal]) -> Front<'_, Step>
-    ensures { Reads (spec.condition_step x list.now) result }
+fn condition_step(x: NumExpr, list: &mut &[Terminal]) -> Result<Step, Failure>
+    ensures { Reads (spec.condition_step x list.old.now) result list.new.now }
 {
-    match list {
+    match *list {
         [Terminal::Keyword(Keyword::Then), rest @ ..] => {
-            Ok(Some(((Some(then_item(x, rest)), Place::after_branch()), rest)))
+            *list = rest;
+            Ok((Some(then_item(x, rest)), Place::after_branch()))
         }
-        _ => Ok(Some(((Some(Item::If(x)), Place::after_condition()), list))),
+        _ => Ok((Some(Item::If(x)), Place::after_condition())),
     }
 }
 
 /// What follows IF.
 #[tactic(auto, unfolding(expr_parse::specs::Parse::on_front))]
-fn if_step(alloc: Global, list: &[Terminal]) -> Front<'_, Step>
-    ensures { Reads (spec.if_step list.now) result }
+fn if_step(alloc: Global, list: &mut &[Terminal]) -> Result<Step, Failure>
+    ensures { Reads (spec.if_step list.old.now) result list.new.now }
 {
-    let Some((x, rest)) = longest_num(alloc, list)? else {
-        return Ok(None);
-    };
-    condition_step(x, rest)
+    let x = longest_num(alloc, list)?;
+    condition_step(x, list)
 }
 
 /// The lines of ON, after GOTO or GOSUB.
 #[tactic(auto, unfolding(expr_parse::specs::Parse::on_front))]
-fn lines_step(alloc: Global, x: NumExpr, jump: Jump, list: &[Terminal]) -> Front<'_, Step>
-    ensures { Reads (spec.lines_step x jump list.now) result }
+fn lines_step(
+    alloc: Global,
+    x: NumExpr,
+    jump: Jump,
+    list: &mut &[Terminal],
+) -> Result<Step, Failure>
+    ensures { Reads (spec.lines_step x jump list.old.now) result list.new.now }
 {
-    let Some((both, rest)) = then::<NumExpr, Lines>(alloc, x, list)? else {
-        return Ok(None);
-    };
-    let (x, lines) = both;
-    Ok(Some((
-        (Some(Item::On(x, jump, lines)), Place::after_ruling()),
-        rest,
-    )))
+    let (x, lines) = with(x, list_of::<ALine>(alloc, list))?;
+    Ok((Some(Item::On(x, jump, lines)), Place::after_ruling()))
 }
 
 /// What follows ON's number.
 #[tactic(auto, unfolding(crate::specs::Steps::jump_step))]
-fn jump_step(alloc: Global, x: NumExpr, list: &[Terminal]) -> Front<'_, Step>
-    ensures { Reads (spec.jump_step x list.now) result }
+fn jump_step(alloc: Global, x: NumExpr, list: &mut &[Terminal]) -> Result<Step, Failure>
+    ensures { Reads (spec.jump_step x list.old.now) result list.new.now }
 {
-    match list {
-        [Terminal::Keyword(Keyword::Goto), rest @ ..] => lines_step(alloc, x, Jump::Goto, rest),
-        [Terminal::Keyword(Keyword::Gosub), rest @ ..] => lines_step(alloc, x, Jump::Gosub, rest),
-        _ => Ok(nothing(x)),
+    match *list {
+        [Terminal::Keyword(Keyword::Goto), rest @ ..] => {
+            *list = rest;
+            lines_step(alloc, x, Jump::Goto, list)
+        }
+        [Terminal::Keyword(Keyword::Gosub), rest @ ..] => {
+            *list = rest;
+            lines_step(alloc, x, Jump::Gosub, list)
+        }
+        _ => absent(x),
     }
 }
 
 /// ON with a number.
 #[tactic(auto, unfolding(expr_parse::specs::Parse::on_front))]
-fn on_number(alloc: Global, list: &[Terminal]) -> Front<'_, Step>
-    ensures { Reads (spec.on_number list.now) result }
+fn on_number(alloc: Global, list: &mut &[Terminal]) -> Result<Step, Failure>
+    ensures { Reads (spec.on_number list.old.now) result list.new.now }
 {
-    let Some((x, rest)) = longest_num(alloc, list)? else {
-        return Ok(None);
-    };
-    jump_step(alloc, x, rest)
+    let x = longest_num(alloc, list)?;
+    jump_step(alloc, x, list)
 }
 
 /// Whether a variable of LOCAL ends before a list.
@@ -112,32 +114,37 @@ fn local_item(list: &[Terminal]) -> bool
 
 /// What follows ON ERROR.
 #[tactic(auto, unfolding(crate::specs::Steps::error_step))]
-fn error_step(place: Place, list: &[Terminal]) -> Front<'_, Step>
-    ensures { Reads (spec.error_step place list.now) result }
+fn error_step(place: Place, list: &mut &[Terminal]) -> Result<Step, Failure>
+    ensures { Reads (spec.error_step place list.old.now) result list.new.now }
 {
-    match list {
+    match *list {
         [Terminal::Keyword(Keyword::Off), rest @ ..] => {
+            *list = rest;
             let off = Item::Stmt(Stmt::Error(ErrorStmt::OnErrorOff));
-            Ok(Some(((Some(off), place.after_item()), rest)))
+            Ok((Some(off), place.after_item()))
         }
         [Terminal::Keyword(Keyword::Local), rest @ ..] => {
             if local_item(rest) {
-                Ok(Some(((Some(Item::OnError), place.after_word()), list)))
+                Ok((Some(Item::OnError), place.after_word()))
             } else {
-                Ok(Some(((Some(Item::OnErrorLocal), place.after_word()), rest)))
+                *list = rest;
+                Ok((Some(Item::OnErrorLocal), place.after_word()))
             }
         }
-        _ => Ok(Some(((Some(Item::OnError), place.after_word()), list))),
+        _ => Ok((Some(Item::OnError), place.after_word())),
     }
 }
 
 /// What follows ON.
 #[tactic(auto, unfolding(crate::specs::Steps::on_step))]
-fn on_step(alloc: Global, place: Place, list: &[Terminal]) -> Front<'_, Step>
-    ensures { Reads (spec.on_step place list.now) result }
+fn on_step(alloc: Global, place: Place, list: &mut &[Terminal]) -> Result<Step, Failure>
+    ensures { Reads (spec.on_step place list.old.now) result list.new.now }
 {
-    match list {
-        [Terminal::Keyword(Keyword::Error), rest @ ..] => error_step(place, rest),
+    match *list {
+        [Terminal::Keyword(Keyword::Error), rest @ ..] => {
+            *list = rest;
+            error_step(place, list)
+        }
         _ => on_number(alloc, list),
     }
 }
@@ -153,134 +160,162 @@ fn all_colons(list: &[Terminal]) -> bool
 
 /// What follows CASE's expression.
 #[tactic(auto, unfolding(crate::specs::Steps::case_step))]
-fn case_of(place: Place, x: Any, list: &[Terminal]) -> Front<'_, Step>
-    ensures { Reads (spec.case_step place x list.now) result }
+fn case_of(place: Place, x: Any, list: &mut &[Terminal]) -> Result<Step, Failure>
+    ensures { Reads (spec.case_step place x list.old.now) result list.new.now }
 {
-    match list {
+    match *list {
         [Terminal::Keyword(Keyword::Of), rest @ ..] => {
             if all_colons(rest) {
-                let none = &rest[rest.len()..];
-                Ok(Some(((Some(Item::Case(x)), place.after_item()), none)))
+                *list = &rest[rest.len()..];
+                Ok((Some(Item::Case(x)), place.after_item()))
             } else {
-                Ok(nothing(x))
+                absent(x)
             }
         }
-        _ => Ok(nothing(x)),
+        _ => absent(x),
     }
 }
 
 /// What follows CASE.
 #[tactic(auto, unfolding(expr_parse::specs::Parse::on_front))]
-fn case_item(alloc: Global, place: Place, list: &[Terminal]) -> Front<'_, Step>
-    ensures { Reads (spec.case_item place list.now) result }
+fn case_item(alloc: Global, place: Place, list: &mut &[Terminal]) -> Result<Step, Failure>
+    ensures { Reads (spec.case_item place list.old.now) result list.new.now }
 {
-    let Some((x, rest)) = longest_any(alloc, list)? else {
-        return Ok(None);
-    };
-    case_of(place, x, rest)
+    let x = longest_any(alloc, list)?;
+    case_of(place, x, list)
 }
 
 /// What follows DATA.
 #[tactic(auto, unfolding(crate::specs::Steps::data_step))]
-fn data_step(place: Place, list: &[Terminal]) -> Front<'_, Step>
-    ensures { Reads (spec.data_step place list.now) result }
+fn data_step(place: Place, list: &mut &[Terminal]) -> Result<Step, Failure>
+    ensures { Reads (spec.data_step place list.old.now) result list.new.now }
 {
-    match list {
+    match *list {
         [Terminal::Tail(number), rest @ ..] => match rest {
-            [] => Ok(Some(((Some(Item::Data(*number)), place.after_item()), rest))),
-            _ => Ok(None),
+            [] => {
+                *list = rest;
+                Ok((Some(Item::Data(*number)), place.after_item()))
+            }
+            _ => Err(Failure::Absent),
         },
-        _ => Ok(None),
+        _ => Err(Failure::Absent),
     }
 }
 
 /// What follows REM.
 #[tactic(auto, unfolding(crate::specs::Steps::remark_step))]
-fn remark_step(place: Place, list: &[Terminal]) -> Front<'_, Step>
-    ensures { Reads (spec.remark_step place list.now) result }
+fn remark_step(place: Place, list: &mut &[Terminal]) -> Result<Step, Failure>
+    ensures { Reads (spec.remark_step place list.old.now) result list.new.now }
 {
-    match list {
+    match *list {
         [Terminal::Tail(_), rest @ ..] => match rest {
-            [] => Ok(Some(((Some(Item::Remark), place.after_item()), rest))),
-            _ => Ok(None),
+            [] => {
+                *list = rest;
+                Ok((Some(Item::Remark), place.after_item()))
+            }
+            _ => Err(Failure::Absent),
         },
-        _ => Ok(None),
+        _ => Err(Failure::Absent),
     }
 }
 
 /// What follows `[`.
 #[tactic(auto, unfolding(crate::specs::Steps::open_step))]
-fn open_step(place: Place, list: &[Terminal]) -> Front<'_, Step>
-    ensures { Reads (spec.open_step place list.now) result }
+fn open_step(place: Place, list: &mut &[Terminal]) -> Result<Step, Failure>
+    ensures { Reads (spec.open_step place list.old.now) result list.new.now }
 {
-    match list {
-        [] => Ok(Some(((Some(Item::BeginAssembly), place.after_item()), list))),
-        _ => Ok(None),
+    match *list {
+        [] => Ok((Some(Item::BeginAssembly), place.after_item())),
+        _ => Err(Failure::Absent),
     }
 }
 
 /// A line's number, which is a GOTO after THEN and ELSE.
-fn line_step(place: Place, number: u16, list: &[Terminal]) -> Front<'_, Step>
-    ensures { Reads (spec.line_step place number list.now) result }
+fn line_step(place: Place, number: u16, list: &mut &[Terminal]) -> Result<Step, Failure>
+    ensures { Reads (spec.line_step place number list.old.now) result list.new.now }
 {
     if !place.branch {
-        return Ok(None);
+        return Err(Failure::Absent);
     }
     let goto = Item::Stmt(Stmt::Flow(Flow::Goto(number)));
-    Ok(Some(((Some(goto), Place::after_ruling()), list)))
+    Ok((Some(goto), Place::after_ruling()))
 }
 
 /// A plain statement.
 #[tactic(auto, unfolding(crate::specs::Steps::plain_step, expr_parse::specs::Parse::on_front))]
-fn plain_step(alloc: Global, place: Place, list: &[Terminal]) -> Front<'_, Step>
-    ensures { Reads (spec.plain_step place list.now) result }
+fn plain_step(alloc: Global, place: Place, list: &mut &[Terminal]) -> Result<Step, Failure>
+    ensures { Reads (spec.plain_step place list.old.now) result list.new.now }
 {
     if place.bare && continues(list) {
-        return Ok(None);
+        return Err(Failure::Absent);
     }
-    let Some((x, rest)) = stmt(alloc, list)? else {
-        return Ok(None);
-    };
-    Ok(Some(((Some(Item::Stmt(x)), place.after_item()), rest)))
+    let x = stmt(alloc, list)?;
+    Ok((Some(Item::Stmt(x)), place.after_item()))
 }
 
 /// An item, where one may begin.
 #[tactic(auto, unfolding(crate::specs::Steps::item_step, crate::specs::Steps::word_step))]
-fn item_step(alloc: Global, place: Place, list: &[Terminal]) -> Front<'_, Step>
-    ensures { Reads (spec.item_step place list.now) result }
+fn item_step(alloc: Global, place: Place, list: &mut &[Terminal]) -> Result<Step, Failure>
+    ensures { Reads (spec.item_step place list.old.now) result list.new.now }
 {
-    match list {
-        [Terminal::Keyword(Keyword::If), rest @ ..] => if_step(alloc, rest),
-        [Terminal::Keyword(Keyword::On), rest @ ..] => on_step(alloc, place, rest),
-        [Terminal::Keyword(Keyword::Case), rest @ ..] => case_item(alloc, place, rest),
-        [Terminal::Keyword(Keyword::Repeat), rest @ ..] => {
-            Ok(Some(((Some(Item::Repeat), place.after_word()), rest)))
+    match *list {
+        [Terminal::Keyword(Keyword::If), rest @ ..] => {
+            *list = rest;
+            if_step(alloc, list)
         }
-        [Terminal::Keyword(Keyword::Data), rest @ ..] => data_step(place, rest),
-        [Terminal::Keyword(Keyword::Rem), rest @ ..] => remark_step(place, rest),
-        [Terminal::LineRef(number), rest @ ..] => line_step(place, *number, rest),
-        [Terminal::OpenSquare, rest @ ..] => open_step(place, rest),
+        [Terminal::Keyword(Keyword::On), rest @ ..] => {
+            *list = rest;
+            on_step(alloc, place, list)
+        }
+        [Terminal::Keyword(Keyword::Case), rest @ ..] => {
+            *list = rest;
+            case_item(alloc, place, list)
+        }
+        [Terminal::Keyword(Keyword::Repeat), rest @ ..] => {
+            *list = rest;
+            Ok((Some(Item::Repeat), place.after_word()))
+        }
+        [Terminal::Keyword(Keyword::Data), rest @ ..] => {
+            *list = rest;
+            data_step(place, list)
+        }
+        [Terminal::Keyword(Keyword::Rem), rest @ ..] => {
+            *list = rest;
+            remark_step(place, list)
+        }
+        [Terminal::LineRef(number), rest @ ..] => {
+            *list = rest;
+            line_step(place, *number, list)
+        }
+        [Terminal::OpenSquare, rest @ ..] => {
+            *list = rest;
+            open_step(place, list)
+        }
         _ => plain_step(alloc, place, list),
     }
 }
 
 /// An item, or a `:`.
 #[tactic(auto, unfolding(crate::specs::Steps::step))]
-pub fn step(alloc: Global, place: Place, list: &[Terminal]) -> Front<'_, Step>
-    ensures { Reads (spec.step place list.now) result }
+pub fn step(alloc: Global, place: Place, list: &mut &[Terminal]) -> Result<Step, Failure>
+    ensures { Reads (spec.step place list.old.now) result list.new.now }
 {
-    match list {
-        [] => Ok(None),
-        [Terminal::Colon, rest @ ..] => Ok(Some(((None, place.after_colon()), rest))),
+    match *list {
+        [] => Err(Failure::Absent),
+        [Terminal::Colon, rest @ ..] => {
+            *list = rest;
+            Ok((None, place.after_colon()))
+        }
         [Terminal::Keyword(Keyword::Else), rest @ ..] => {
             if !place.ruled {
-                return Ok(None);
+                return Err(Failure::Absent);
             }
-            Ok(Some(((Some(Item::Else), Place::after_branch()), rest)))
+            *list = rest;
+            Ok((Some(Item::Else), Place::after_branch()))
         }
         _ => {
             if !place.free {
-                return Ok(None);
+                return Err(Failure::Absent);
             }
             item_step(alloc, place, list)
         }

@@ -1,18 +1,17 @@
 //! Statements that are a word and plain operands.
 
 ghost use Rattle.std.specs.Prelude.{◌≡◌, Some};
-ghost use Rattle.expr_parse.specs.Nests.{Reads};
+ghost use Rattle.expr_parse.specs.Reads.{Reads};
 ghost use Rattle.expr_parse.specs.Parse.{on_front, longest_num};
 ghost use Rattle.bas_ast.specs.Statements.{form};
 ghost use Rattle.bas_parse.specs.Statements as spec;
 ghost use Rattle.bas_parse.specs.Words.{number_stmt};
 
-use crate::kept::{then, with};
 use crate::marks::error_word;
-use crate::rows::{ADimPart, ATarget, AText, AVariable, list_of};
+use crate::rows::{ADimPart, ATarget, AVariable, list_of};
 use crate::targets::line;
 use bas_ast::{Call, ErrorStmt, Flow, Keyword, NumExpr, Output, Stmt, Terminal};
-use expr_parse::{Front, comma, longest_num};
+use expr_parse::{Failure, comma, longest_num, longest_text, past, with};
 use std::alloc::Global;
 
 /// A word before one number.
@@ -40,95 +39,76 @@ fn with_number(word: NumberWord, x: NumExpr) -> Stmt
 
 /// What follows a word before one number.
 #[tactic(auto, unfolding(expr_parse::specs::Parse::on_front))]
-pub fn number_word(alloc: Global, word: NumberWord, list: &[Terminal]) -> Front<'_, Stmt>
-    ensures { Reads (spec.with_number (number_stmt word) list.now) result }
+pub fn number_word(alloc: Global, word: NumberWord, list: &mut &[Terminal]) -> Result<Stmt, Failure>
+    ensures { Reads (spec.with_number (number_stmt word) list.old.now) result list.new.now }
 {
-    let Some((x, rest)) = longest_num(alloc, list)? else {
-        return Ok(None);
-    };
-    Ok(Some((with_number(word, x), rest)))
+    let x = longest_num(alloc, list)?;
+    Ok(with_number(word, x))
 }
 
 /// What follows GOTO.
 #[tactic(auto, unfolding(crate::specs::Statements::word_at, expr_parse::specs::Parse::on_front))]
-pub fn goto(list: &[Terminal]) -> Front<'_, Stmt>
-    ensures { Reads (spec.word_at Keyword.Goto list.now) result }
+pub fn goto(list: &mut &[Terminal]) -> Result<Stmt, Failure>
+    ensures { Reads (spec.word_at Keyword.Goto list.old.now) result list.new.now }
 {
-    match line(list) {
-        Some((number, rest)) => Ok(Some((Stmt::Flow(Flow::Goto(number)), rest))),
-        None => Ok(None),
-    }
+    let number = line(list)?;
+    Ok(Stmt::Flow(Flow::Goto(number)))
 }
 
 /// What follows GOSUB.
 #[tactic(auto, unfolding(crate::specs::Statements::word_at, expr_parse::specs::Parse::on_front))]
-pub fn gosub(list: &[Terminal]) -> Front<'_, Stmt>
-    ensures { Reads (spec.word_at Keyword.Gosub list.now) result }
+pub fn gosub(list: &mut &[Terminal]) -> Result<Stmt, Failure>
+    ensures { Reads (spec.word_at Keyword.Gosub list.old.now) result list.new.now }
 {
-    match line(list) {
-        Some((number, rest)) => Ok(Some((Stmt::Flow(Flow::Gosub(number)), rest))),
-        None => Ok(None),
-    }
+    let number = line(list)?;
+    Ok(Stmt::Flow(Flow::Gosub(number)))
 }
 
 /// The text of ERROR, after its number.
 #[tactic(auto, unfolding(expr_parse::specs::Parse::on_front))]
-fn raise_text(alloc: Global, number: NumExpr, list: &[Terminal]) -> Front<'_, Stmt>
-    ensures { Reads (spec.raise_text number list.now) result }
+fn raise_text(alloc: Global, number: NumExpr, list: &mut &[Terminal]) -> Result<Stmt, Failure>
+    ensures { Reads (spec.raise_text number list.old.now) result list.new.now }
 {
-    let Some((both, rest)) = then::<NumExpr, AText>(alloc, number, list)? else {
-        return Ok(None);
-    };
-    let (number, text) = both;
-    Ok(Some((Stmt::Error(ErrorStmt::Raise(number, text)), rest)))
+    let (number, text) = with(number, longest_text(alloc, list))?;
+    Ok(Stmt::Error(ErrorStmt::Raise(number, text)))
 }
 
 /// What follows ERROR.
 #[tactic(auto, unfolding(crate::specs::Statements::word_at, expr_parse::specs::Parse::on_front, expr_parse::specs::Parse::on_some))]
-pub fn raise(alloc: Global, list: &[Terminal]) -> Front<'_, Stmt>
-    ensures { Reads (spec.word_at Keyword.Error list.now) result }
+pub fn raise(alloc: Global, list: &mut &[Terminal]) -> Result<Stmt, Failure>
+    ensures { Reads (spec.word_at Keyword.Error list.old.now) result list.new.now }
 {
-    let Some((number, rest)) = longest_num(alloc, list)? else {
-        return Ok(None);
-    };
-    let Some((number, after)) = with(number, comma(rest)) else {
-        return Ok(None);
-    };
-    raise_text(alloc, number, after)
+    let number = longest_num(alloc, list)?;
+    let number = past(number, comma(list))?;
+    raise_text(alloc, number, list)
 }
 
 /// What follows LOCAL.
 #[tactic(auto, unfolding(crate::specs::Statements::word_at, expr_parse::specs::Parse::on_front, expr_parse::specs::Parse::on_some))]
-pub fn local(alloc: Global, list: &[Terminal]) -> Front<'_, Stmt>
-    ensures { Reads (spec.word_at Keyword.Local list.now) result }
+pub fn local(alloc: Global, list: &mut &[Terminal]) -> Result<Stmt, Failure>
+    ensures { Reads (spec.word_at Keyword.Local list.old.now) result list.new.now }
 {
-    if let Some(rest) = error_word(list) {
-        return Ok(Some((Stmt::Error(ErrorStmt::LocalError), rest)));
+    if error_word(list).is_ok() {
+        return Ok(Stmt::Error(ErrorStmt::LocalError));
     }
-    let Some((variables, rest)) = list_of::<AVariable>(alloc, list)? else {
-        return Ok(None);
-    };
-    Ok(Some((Stmt::Call(Call::Local(variables)), rest)))
+    let variables = list_of::<AVariable>(alloc, list)?;
+    Ok(Stmt::Call(Call::Local(variables)))
 }
 
 /// What follows READ.
 #[tactic(auto, unfolding(crate::specs::Statements::word_at, expr_parse::specs::Parse::on_front))]
-pub fn read(alloc: Global, list: &[Terminal]) -> Front<'_, Stmt>
-    ensures { Reads (spec.word_at Keyword.Read list.now) result }
+pub fn read(alloc: Global, list: &mut &[Terminal]) -> Result<Stmt, Failure>
+    ensures { Reads (spec.word_at Keyword.Read list.old.now) result list.new.now }
 {
-    let Some((targets, rest)) = list_of::<ATarget>(alloc, list)? else {
-        return Ok(None);
-    };
-    Ok(Some((Stmt::Read(targets), rest)))
+    let targets = list_of::<ATarget>(alloc, list)?;
+    Ok(Stmt::Read(targets))
 }
 
 /// What follows DIM.
 #[tactic(auto, unfolding(crate::specs::Statements::word_at, expr_parse::specs::Parse::on_front))]
-pub fn dim(alloc: Global, list: &[Terminal]) -> Front<'_, Stmt>
-    ensures { Reads (spec.word_at Keyword.Dim list.now) result }
+pub fn dim(alloc: Global, list: &mut &[Terminal]) -> Result<Stmt, Failure>
+    ensures { Reads (spec.word_at Keyword.Dim list.old.now) result list.new.now }
 {
-    let Some((parts, rest)) = list_of::<ADimPart>(alloc, list)? else {
-        return Ok(None);
-    };
-    Ok(Some((Stmt::Dim(parts), rest)))
+    let parts = list_of::<ADimPart>(alloc, list)?;
+    Ok(Stmt::Dim(parts))
 }

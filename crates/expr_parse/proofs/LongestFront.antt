@@ -1,14 +1,18 @@
 -- The laws of expressions.
-use Rattle.std.proofs.Common.{Option, ◌≡◌, ℕ, suc, ◌≤◌, Bool, true, false, List, [], ◌++◌, length, Some, None, refl, ap, sym, subst, ◌∙◌, length-append, lit≤, lit<, arith, ◌-◌, drop, Bor}
+use Rattle.std.proofs.Common.{◌≡◌, ℕ, suc, ◌≤◌, Bool, true, false, List, [], ◌++◌, length, Some, None, refl, ap, sym, subst, ◌∙◌, length-append, lit≤, lit<, arith, ◌-◌, drop, Result, Err}
 use Rattle.std.proofs.Math.Seq.{drop-append_seam}
-use Rattle.std.specs.Option.{option_map}
 use Rattle.bas_ast.specs.declared.expressions.NumExpr.{NumExpr}
 use Rattle.bas_ast.specs.declared.expressions.StrExpr.{StrExpr}
 use Rattle.bas_ast.specs.declared.terminals.Terminal.{Terminal}
 use Rattle.bas_ast.specs.Expressions.{IsNum, IsStr}
+use Rattle.expr_parse.specs.declared.failure.Failure.{Failure}
+use Rattle.expr_parse.specs.declared.failure.Failure.TheVariants as failure
 use Rattle.expr_parse.specs.declared.found.Found.{Found}
 use Rattle.expr_parse.specs.declared.found.Found.TheVariants as found
+use Rattle.expr_parse.specs.declared.top.ParseError.{ParseError}
 use Rattle.expr_parse.specs.Longest.{Fronts, Longest, NoFront, OneTree}
+use Rattle.expr_parse.specs.Parsed.{Parsed, parse_error}
+use Rattle.expr_parse.specs.Reads.{Reads}
 use Rattle.expr_parse.specs.Parse as p
 use Rattle.expr_parse.specs.Parse.{Front}
 use Rattle.expr_parse.proofs.Fronts.{Holds, of_some}
@@ -133,37 +137,30 @@ counted : {A : Type 0} (Is : List Terminal → A → Type 0) (r : List Terminal)
     → (length r - length q ≤ length r) × Longest Is r x (drop (length r - length q) r)
 counted Is r x q h = let e = after_front Is r x q h.here in (omega arith, subst (λ z. Longest Is r x z) e.1 h)
 
--- what a slice's answer says
-answered : {A : Type 0} (m : Front A) (f : Option (A × Bor (List Terminal))) (x : A) (rest : Bor (List Terminal))
-    → option_map (λ z. (z.0, z.1.now)) f ≡ m → f ≡ Some (x, rest) → m ≡ Some (x, rest.now)
-answered m f x rest h e = sym h ∙ ap (λ z. option_map (λ w. (w.0, w.1.now)) z) e
+-- what the public parsers answer where nothing was read
+failed : {A : Type 0} (Is : List Terminal → A → Type 0) (r : List Terminal) (front : Front A) (rest : List Terminal) (f : Failure)
+    (answer : Result (A × ℕ) ParseError) → (front ≡ None → NoFront Is r) → Reads front (Err f) rest → answer ≡ Err (parse_error f) → Parsed Is r answer
+failed Is r front rest failure.Absent answer outside h e = subst (Parsed Is r) (sym e) (outside h)
+failed Is r front rest failure.NoMemory answer outside h e = subst (Parsed Is r) (sym e) tt
 
-unanswered : {A : Type 0} (m : Front A) (f : Option (A × Bor (List Terminal)))
-    → option_map (λ z. (z.0, z.1.now)) f ≡ m → f ≡ None → m ≡ None
-unanswered m f h e = sym h ∙ ap (λ z. option_map (λ w. (w.0, w.1.now)) z) e
+pub num_shorter : (r : List Terminal) (x : NumExpr) (rest : List Terminal) → p.longest_num r ≡ Some (x, rest) → length rest ≤ length r
+num_shorter r x rest e = (after_front (IsNum 1) r x rest (num_found r x rest e).here).0
 
-pub num_shorter : (r : List Terminal) (f : Option (NumExpr × Bor (List Terminal))) (x : NumExpr) (rest : Bor (List Terminal))
-    → option_map (λ z. (z.0, z.1.now)) f ≡ p.longest_num r → f ≡ Some (x, rest) → length rest.now ≤ length r
-num_shorter r f x rest h e = (after_front (IsNum 1) r x rest.now (num_found r x rest.now (answered _ f x rest h e)).here).0
+pub num_counted : (r : List Terminal) (x : NumExpr) (rest : List Terminal) → p.longest_num r ≡ Some (x, rest)
+    → (length r - length rest ≤ length r) × Longest (IsNum 1) r x (drop (length r - length rest) r)
+num_counted r x rest e = counted (IsNum 1) r x rest (num_found r x rest e)
 
-pub num_counted : (r : List Terminal) (f : Option (NumExpr × Bor (List Terminal))) (x : NumExpr) (rest : Bor (List Terminal))
-    → option_map (λ z. (z.0, z.1.now)) f ≡ p.longest_num r → f ≡ Some (x, rest)
-    → (length r - length rest.now ≤ length r) × Longest (IsNum 1) r x (drop (length r - length rest.now) r)
-num_counted r f x rest h e = counted (IsNum 1) r x rest.now (num_found r x rest.now (answered _ f x rest h e))
+pub num_failed : (r rest : List Terminal) (f : Failure) (answer : Result (NumExpr × ℕ) ParseError)
+    → Reads (p.longest_num r) (Err f) rest → answer ≡ Err (parse_error f) → Parsed (IsNum 1) r answer
+num_failed r rest f answer h e = failed (IsNum 1) r (p.longest_num r) rest f answer (num_none r) h e
 
-pub num_outside : (r : List Terminal) (f : Option (NumExpr × Bor (List Terminal)))
-    → option_map (λ z. (z.0, z.1.now)) f ≡ p.longest_num r → f ≡ None → NoFront (IsNum 1) r
-num_outside r f h e = num_none r (unanswered _ f h e)
+pub text_shorter : (r : List Terminal) (x : StrExpr) (rest : List Terminal) → p.longest_text r ≡ Some (x, rest) → length rest ≤ length r
+text_shorter r x rest e = (after_front (IsStr 4) r x rest (text_found r x rest e).here).0
 
-pub text_shorter : (r : List Terminal) (f : Option (StrExpr × Bor (List Terminal))) (x : StrExpr) (rest : Bor (List Terminal))
-    → option_map (λ z. (z.0, z.1.now)) f ≡ p.longest_text r → f ≡ Some (x, rest) → length rest.now ≤ length r
-text_shorter r f x rest h e = (after_front (IsStr 4) r x rest.now (text_found r x rest.now (answered _ f x rest h e)).here).0
+pub text_counted : (r : List Terminal) (x : StrExpr) (rest : List Terminal) → p.longest_text r ≡ Some (x, rest)
+    → (length r - length rest ≤ length r) × Longest (IsStr 4) r x (drop (length r - length rest) r)
+text_counted r x rest e = counted (IsStr 4) r x rest (text_found r x rest e)
 
-pub text_counted : (r : List Terminal) (f : Option (StrExpr × Bor (List Terminal))) (x : StrExpr) (rest : Bor (List Terminal))
-    → option_map (λ z. (z.0, z.1.now)) f ≡ p.longest_text r → f ≡ Some (x, rest)
-    → (length r - length rest.now ≤ length r) × Longest (IsStr 4) r x (drop (length r - length rest.now) r)
-text_counted r f x rest h e = counted (IsStr 4) r x rest.now (text_found r x rest.now (answered _ f x rest h e))
-
-pub text_outside : (r : List Terminal) (f : Option (StrExpr × Bor (List Terminal)))
-    → option_map (λ z. (z.0, z.1.now)) f ≡ p.longest_text r → f ≡ None → NoFront (IsStr 4) r
-text_outside r f h e = text_none r (unanswered _ f h e)
+pub text_failed : (r rest : List Terminal) (f : Failure) (answer : Result (StrExpr × ℕ) ParseError)
+    → Reads (p.longest_text r) (Err f) rest → answer ≡ Err (parse_error f) → Parsed (IsStr 4) r answer
+text_failed r rest f answer h e = failed (IsStr 4) r (p.longest_text r) rest f answer (text_none r) h e

@@ -1,17 +1,21 @@
 //! The rules take the parser of the expressions that lie deeper as a parameter, so that each is proved by itself. Here is
 //! that parameter, and what is made of it for one kind of expression.
+//!
+//! Each rule reads at the front of a list and moves the list past what it has read. Where it answers a failure, nothing is said of where
+//! the list is: who has an alternative reads a copy.
 
-ghost use Rattle.std.specs.Prelude.{[]};
-ghost use Rattle.expr_parse.specs.Nests.{Nests, Reads};
+ghost use Rattle.expr_parse.specs.Nests.{Nests};
 ghost use Rattle.expr_parse.specs.Parse as spec;
+ghost use Rattle.expr_parse.specs.Reads.{Reads};
 
+use crate::failure::{Failure, past};
 use crate::found::Found;
 use crate::marks::{close, comma};
 use bas_ast::{Any, NumExpr, StrExpr, Terminal};
-use std::alloc::{AllocError, Global};
+use std::alloc::Global;
 
-/// What stands at the front of a list, with the rest of it.
-pub type Front<'a, T> = Result<Option<(T, &'a [Terminal])>, AllocError>;
+/// An expression at the front of a list, with the rest of it.
+pub type Front<'a> = Result<(Found, &'a [Terminal]), Failure>;
 
 /// The rules, to a depth.
 #[derive(Clone, Copy)]
@@ -22,75 +26,56 @@ pub struct Grammar<F> {
     pub inner: F,
 }
 
-impl<F: for<'b> Fn(Global, usize, u8, &'b [Terminal]) -> Front<'b, Found>> Grammar<F> {
+impl<F: for<'b> Fn(Global, usize, u8, &'b [Terminal]) -> Front<'b>> Grammar<F> {
     /// An expression whose operators outside brackets have this level at least.
-    pub fn deeper<'a>(&self, least: u8, list: &'a [Terminal]) -> Front<'a, Found>
+    pub fn deeper(&self, least: u8, list: &mut &[Terminal]) -> Result<Found, Failure>
         requires { Nests self.now.depth (F.pre self.now.inner) (F.post self.now.inner) }
-        ensures { Reads (spec.expression self.now.depth least list.now) result }
+        ensures { Reads (spec.expression self.now.depth least list.old.now) result list.new.now }
     {
-        (self.inner)(self.alloc, self.depth, least, list)
+        let (found, rest) = (self.inner)(self.alloc, self.depth, least, *list)?;
+        *list = rest;
+        Ok(found)
     }
 
     #[tactic(auto, unfolding(crate::specs::Parse::number, crate::specs::Parse::on_front))]
-    pub fn number<'a>(&self, least: u8, list: &'a [Terminal]) -> Front<'a, NumExpr>
+    pub fn number(&self, least: u8, list: &mut &[Terminal]) -> Result<NumExpr, Failure>
         requires { Nests self.now.depth (F.pre self.now.inner) (F.post self.now.inner) }
-        ensures { Reads (spec.number (spec.expression self.now.depth) least list.now) result }
+        ensures { Reads (spec.number (spec.expression self.now.depth) least list.old.now) result list.new.now }
     {
-        let Some((found, rest)) = self.deeper(least, list)? else {
-            return Ok(None);
-        };
-        match found {
-            Found::Number(_, x) => Ok(Some((x, rest))),
-            Found::Text(_) => Ok(None),
-        }
+        self.deeper(least, list)?.number()
     }
 
     #[tactic(auto, unfolding(crate::specs::Parse::text, crate::specs::Parse::on_front))]
-    pub fn text<'a>(&self, least: u8, list: &'a [Terminal]) -> Front<'a, StrExpr>
+    pub fn text(&self, least: u8, list: &mut &[Terminal]) -> Result<StrExpr, Failure>
         requires { Nests self.now.depth (F.pre self.now.inner) (F.post self.now.inner) }
-        ensures { Reads (spec.text (spec.expression self.now.depth) least list.now) result }
+        ensures { Reads (spec.text (spec.expression self.now.depth) least list.old.now) result list.new.now }
     {
-        let Some((found, rest)) = self.deeper(least, list)? else {
-            return Ok(None);
-        };
-        match found {
-            Found::Number(..) => Ok(None),
-            Found::Text(y) => Ok(Some((y, rest))),
-        }
+        self.deeper(least, list)?.text()
     }
 
     #[tactic(auto, unfolding(crate::specs::Parse::either, crate::specs::Parse::on_front))]
-    pub fn either<'a>(&self, list: &'a [Terminal]) -> Front<'a, Any>
+    pub fn either(&self, list: &mut &[Terminal]) -> Result<Any, Failure>
         requires { Nests self.now.depth (F.pre self.now.inner) (F.post self.now.inner) }
-        ensures { Reads (spec.either (spec.expression self.now.depth) list.now) result }
+        ensures { Reads (spec.either (spec.expression self.now.depth) list.old.now) result list.new.now }
     {
-        let Some((found, rest)) = self.deeper(1, list)? else {
-            return Ok(None);
-        };
-        match found {
-            Found::Number(_, x) => Ok(Some((Any::Number(x), rest))),
-            Found::Text(y) => Ok(Some((Any::Text(y), rest))),
+        match self.deeper(1, list)? {
+            Found::Number(_, x) => Ok(Any::Number(x)),
+            Found::Text(y) => Ok(Any::Text(y)),
         }
     }
 
     /// A last number that may be absent, and the bracket.
     #[tactic(auto, unfolding(crate::specs::Parse::end, crate::specs::Parse::on_front, crate::specs::Parse::on_some))]
-    pub fn end<'a>(&self, list: &'a [Terminal]) -> Front<'a, Option<NumExpr>>
+    pub fn end(&self, list: &mut &[Terminal]) -> Result<Option<NumExpr>, Failure>
         requires { Nests self.now.depth (F.pre self.now.inner) (F.post self.now.inner) }
-        ensures { Reads (spec.end (spec.expression self.now.depth) list.now) result }
+        ensures { Reads (spec.end (spec.expression self.now.depth) list.old.now) result list.new.now }
     {
-        if let Some(rest) = close(list) {
-            return Ok(Some((None, rest)));
-        }
-        let Some(after) = comma(list) else {
+        if close(list).is_ok() {
             return Ok(None);
-        };
-        let Some((x, rest)) = self.number(1, after)? else {
-            return Ok(None);
-        };
-        match close(rest) {
-            Some(after_close) => Ok(Some((Some(x), after_close))),
-            None => Ok(None),
         }
+        comma(list)?;
+        let x = self.number(1, list)?;
+        let x = past(x, close(list))?;
+        Ok(Some(x))
     }
 }

@@ -4,6 +4,7 @@
 #![tactic(auto)]
 
 mod classify;
+mod failure;
 mod found;
 mod grammar;
 mod laws;
@@ -17,12 +18,13 @@ mod trees;
 mod words;
 
 pub use classify::terminals;
+pub use failure::{Failure, optional, past, with};
 pub use found::Found;
-pub use grammar::Front;
 pub use laws::one_tree;
 pub use marks::{close, comma};
 pub use parser::{
     longest_any, longest_num, longest_offset, longest_operand, longest_text, whole_arguments,
     whole_subscripts,
 };
+pub use rows::pushed;
 pub use top::{ParseError, front_num, front_text, parse_num, parse_str};

@@ -1,77 +1,98 @@
-//! Single terminals at the front of a list.
+//! Single terminals at the front of a list. Where one is absent, the list stays as it was.
 
-ghost use Rattle.std.specs.Prelude.{◌≡◌};
-ghost use Rattle.std.specs.Option.{option_map};
 ghost use Rattle.expr_parse.specs.Parse.{after_close, after_comma, after_tilde, after_plus, operator_at, comparison_at, indirection_at};
+ghost use Rattle.expr_parse.specs.Reads.{Passes, Takes};
 
+use crate::failure::Failure;
 use bas_ast::{BinaryOp, Comparison, Terminal, Width};
 
-/// What stands after a closing bracket.
-pub fn close(list: &[Terminal]) -> Option<&[Terminal]>
-    ensures { option_map (λ rest. rest.now) result ≡ after_close list.now }
+/// A closing bracket.
+pub fn close(list: &mut &[Terminal]) -> Result<(), Failure>
+    ensures { Passes (after_close list.old.now) result list.old.now list.new.now }
 {
-    match list {
-        [Terminal::Close, rest @ ..] => Some(rest),
-        _ => None,
+    match *list {
+        [Terminal::Close, rest @ ..] => {
+            *list = rest;
+            Ok(())
+        }
+        _ => Err(Failure::Absent),
     }
 }
 
-/// What stands after a comma.
-pub fn comma(list: &[Terminal]) -> Option<&[Terminal]>
-    ensures { option_map (λ rest. rest.now) result ≡ after_comma list.now }
+/// A comma.
+pub fn comma(list: &mut &[Terminal]) -> Result<(), Failure>
+    ensures { Passes (after_comma list.old.now) result list.old.now list.new.now }
 {
-    match list {
-        [Terminal::Comma, rest @ ..] => Some(rest),
-        _ => None,
+    match *list {
+        [Terminal::Comma, rest @ ..] => {
+            *list = rest;
+            Ok(())
+        }
+        _ => Err(Failure::Absent),
     }
 }
 
-/// What stands after `~`.
-pub fn tilde(list: &[Terminal]) -> Option<&[Terminal]>
-    ensures { option_map (λ rest. rest.now) result ≡ after_tilde list.now }
+/// `~`
+pub fn tilde(list: &mut &[Terminal]) -> Result<(), Failure>
+    ensures { Passes (after_tilde list.old.now) result list.old.now list.new.now }
 {
-    match list {
-        [Terminal::Tilde, rest @ ..] => Some(rest),
-        _ => None,
+    match *list {
+        [Terminal::Tilde, rest @ ..] => {
+            *list = rest;
+            Ok(())
+        }
+        _ => Err(Failure::Absent),
     }
 }
 
-/// What stands after `+`.
-pub fn plus(list: &[Terminal]) -> Option<&[Terminal]>
-    ensures { option_map (λ rest. rest.now) result ≡ after_plus list.now }
+/// `+`
+pub fn plus(list: &mut &[Terminal]) -> Result<(), Failure>
+    ensures { Passes (after_plus list.old.now) result list.old.now list.new.now }
 {
-    match list {
-        [Terminal::Operator(BinaryOp::Add), rest @ ..] => Some(rest),
-        _ => None,
+    match *list {
+        [Terminal::Operator(BinaryOp::Add), rest @ ..] => {
+            *list = rest;
+            Ok(())
+        }
+        _ => Err(Failure::Absent),
     }
 }
 
-/// An operator, and what stands after it.
-pub fn operator(list: &[Terminal]) -> Option<(BinaryOp, &[Terminal])>
-    ensures { option_map (λ z. (z.0, z.1.now)) result ≡ operator_at list.now }
+/// An operator.
+pub fn operator(list: &mut &[Terminal]) -> Result<BinaryOp, Failure>
+    ensures { Takes (operator_at list.old.now) result list.old.now list.new.now }
 {
-    match list {
-        [Terminal::Operator(op), rest @ ..] => Some((*op, rest)),
-        _ => None,
+    match *list {
+        [Terminal::Operator(op), rest @ ..] => {
+            *list = rest;
+            Ok(*op)
+        }
+        _ => Err(Failure::Absent),
     }
 }
 
-/// A comparison, and what stands after it.
-pub fn comparison(list: &[Terminal]) -> Option<(Comparison, &[Terminal])>
-    ensures { option_map (λ z. (z.0, z.1.now)) result ≡ comparison_at list.now }
+/// A comparison.
+pub fn comparison(list: &mut &[Terminal]) -> Result<Comparison, Failure>
+    ensures { Takes (comparison_at list.old.now) result list.old.now list.new.now }
 {
-    match list {
-        [Terminal::Operator(BinaryOp::Compare(comparison)), rest @ ..] => Some((*comparison, rest)),
-        _ => None,
+    match *list {
+        [Terminal::Operator(BinaryOp::Compare(comparison)), rest @ ..] => {
+            *list = rest;
+            Ok(*comparison)
+        }
+        _ => Err(Failure::Absent),
     }
 }
 
-/// `?` or `!`, and what stands after it.
-pub fn indirection(list: &[Terminal]) -> Option<(Width, &[Terminal])>
-    ensures { option_map (λ z. (z.0, z.1.now)) result ≡ indirection_at list.now }
+/// `?` or `!`
+pub fn indirection(list: &mut &[Terminal]) -> Result<Width, Failure>
+    ensures { Takes (indirection_at list.old.now) result list.old.now list.new.now }
 {
-    match list {
-        [Terminal::Indirection(width), rest @ ..] => Some((*width, rest)),
-        _ => None,
+    match *list {
+        [Terminal::Indirection(width), rest @ ..] => {
+            *list = rest;
+            Ok(*width)
+        }
+        _ => Err(Failure::Absent),
     }
 }

@@ -1,10 +1,12 @@
 //! Operands: what stands between operators.
 
 ghost use Rattle.bas_ast.specs.Words.{role};
-ghost use Rattle.expr_parse.specs.Nests.{Nests, Reads};
+ghost use Rattle.expr_parse.specs.Nests.{Nests};
 ghost use Rattle.expr_parse.specs.Parse as spec;
+ghost use Rattle.expr_parse.specs.Reads.{Reads};
 ghost use Rattle.expr_parse.specs.Prefixes.{prefixed_number, function_of_text, prefixed_text};
 
+use crate::failure::{Failure, optional, past, with};
 use crate::found::Found;
 use crate::grammar::{Front, Grammar};
 use crate::marks::{close, comma, indirection, tilde};
@@ -22,305 +24,271 @@ use std::alloc::Global;
 /// The level of operands.
 const FACTOR: u8 = 6;
 
-impl<F: for<'b> Fn(Global, usize, u8, &'b [Terminal]) -> Front<'b, Found>> Grammar<F> {
+impl<F: for<'b> Fn(Global, usize, u8, &'b [Terminal]) -> Front<'b>> Grammar<F> {
     /// An indirection after a variable.
     #[tactic(auto, unfolding(crate::specs::Parse::offset, crate::specs::Parse::on_front))]
-    pub fn offset<'a>(&self, least: u8, list: &'a [Terminal]) -> Front<'a, (Width, NumExpr)>
+    pub fn offset(&self, least: u8, list: &mut &[Terminal]) -> Result<(Width, NumExpr), Failure>
         requires { Nests self.now.depth (F.pre self.now.inner) (F.post self.now.inner) }
-        ensures { Reads (spec.offset (spec.expression self.now.depth) least list.now) result }
+        ensures { Reads (spec.offset (spec.expression self.now.depth) least list.old.now) result list.new.now }
     {
-        let Some((width, after)) = indirection(list) else {
-            return Ok(None);
-        };
+        let width = indirection(list)?;
         if least > FACTOR {
-            return Ok(None);
+            return Err(Failure::Absent);
         }
-        let Some((x, rest)) = self.number(7, after)? else {
-            return Ok(None);
-        };
-        Ok(Some(((width, x), rest)))
+        let x = self.number(7, list)?;
+        Ok((width, x))
     }
 
     /// What begins with a variable of numbers.
     #[tactic(auto, unfolding(crate::specs::Parse::placed, crate::specs::Parse::or_front))]
-    fn placed<'a>(&self, least: u8, variable: Variable, list: &'a [Terminal]) -> Front<'a, Found>
+    fn placed(
+        &self,
+        least: u8,
+        variable: Variable,
+        list: &mut &[Terminal],
+    ) -> Result<Found, Failure>
         requires { Nests self.now.depth (F.pre self.now.inner) (F.post self.now.inner) }
-        ensures { Reads (spec.placed (spec.expression self.now.depth) least variable list.now) result }
+        ensures { Reads (spec.placed (spec.expression self.now.depth) least variable list.old.now) result list.new.now }
     {
-        let Some((offset, rest)) = self.offset(least, list)? else {
-            return Ok(Some((Found::Number(7, NumExpr::Variable(variable)), list)));
-        };
-        let (width, x) = offset;
-        let x = Boxed::new(self.alloc, x)?;
-        let sum = NumExpr::IndirectSum(width, variable, x);
-        Ok(Some((Found::Number(6, sum), rest)))
+        let mut after = *list;
+        let (variable, offset) = with(variable, optional(self.offset(least, &mut after)))?;
+        match offset {
+            Some((width, x)) => {
+                *list = after;
+                let (variable, x) = with(variable, Boxed::new(self.alloc, x))?;
+                Ok(Found::Number(6, NumExpr::IndirectSum(width, variable, x)))
+            }
+            None => Ok(Found::Number(7, NumExpr::Variable(variable))),
+        }
     }
 
     /// What begins with an array's element of numbers.
     #[tactic(auto, unfolding(crate::specs::Parse::on_front))]
-    fn element<'a>(&self, least: u8, name: u16, list: &'a [Terminal]) -> Front<'a, Found>
+    fn element(&self, least: u8, name: u16, list: &mut &[Terminal]) -> Result<Found, Failure>
         requires { Nests self.now.depth (F.pre self.now.inner) (F.post self.now.inner) }
-        ensures { Reads (spec.element (spec.expression self.now.depth) least name list.now) result }
+        ensures { Reads (spec.element (spec.expression self.now.depth) least name list.old.now) result list.new.now }
     {
-        let Some((subscripts, rest)) = self.subscripts(list)? else {
-            return Ok(None);
-        };
-        self.placed(least, Variable::Element(name, subscripts), rest)
+        let subscripts = self.subscripts(list)?;
+        self.placed(least, Variable::Element(name, subscripts), list)
     }
 
     /// An array's element of strings.
     #[tactic(auto, unfolding(crate::specs::Parse::on_front))]
-    fn text_element<'a>(&self, name: u16, list: &'a [Terminal]) -> Front<'a, Found>
+    fn text_element(&self, name: u16, list: &mut &[Terminal]) -> Result<Found, Failure>
         requires { Nests self.now.depth (F.pre self.now.inner) (F.post self.now.inner) }
-        ensures { Reads (spec.text_element (spec.expression self.now.depth) name list.now) result }
+        ensures { Reads (spec.text_element (spec.expression self.now.depth) name list.old.now) result list.new.now }
     {
-        let Some((subscripts, rest)) = self.subscripts(list)? else {
-            return Ok(None);
-        };
-        let variable = Variable::Element(name, subscripts);
-        Ok(Some((Found::Text(StrExpr::Variable(variable)), rest)))
+        let subscripts = self.subscripts(list)?;
+        Ok(Found::Text(StrExpr::Variable(Variable::Element(name, subscripts))))
     }
 
     /// A function of numbers, with its arguments.
     #[tactic(auto, unfolding(crate::specs::Parse::on_front))]
-    fn function<'a>(&self, name: u16, list: &'a [Terminal]) -> Front<'a, Found>
+    fn function(&self, name: u16, list: &mut &[Terminal]) -> Result<Found, Failure>
         requires { Nests self.now.depth (F.pre self.now.inner) (F.post self.now.inner) }
-        ensures { Reads (spec.function (spec.expression self.now.depth) name list.now) result }
+        ensures { Reads (spec.function (spec.expression self.now.depth) name list.old.now) result list.new.now }
     {
-        let Some((arguments, rest)) = self.arguments(list)? else {
-            return Ok(None);
-        };
-        Ok(Some((Found::Number(7, NumExpr::Function(name, arguments)), rest)))
+        let arguments = self.arguments(list)?;
+        Ok(Found::Number(7, NumExpr::Function(name, arguments)))
     }
 
     /// A function of strings, with its arguments.
     #[tactic(auto, unfolding(crate::specs::Parse::on_front))]
-    fn text_function<'a>(&self, name: u16, list: &'a [Terminal]) -> Front<'a, Found>
+    fn text_function(&self, name: u16, list: &mut &[Terminal]) -> Result<Found, Failure>
         requires { Nests self.now.depth (F.pre self.now.inner) (F.post self.now.inner) }
-        ensures { Reads (spec.text_function (spec.expression self.now.depth) name list.now) result }
+        ensures { Reads (spec.text_function (spec.expression self.now.depth) name list.old.now) result list.new.now }
     {
-        let Some((arguments, rest)) = self.arguments(list)? else {
-            return Ok(None);
-        };
-        Ok(Some((Found::Text(StrExpr::Function(name, arguments)), rest)))
+        let arguments = self.arguments(list)?;
+        Ok(Found::Text(StrExpr::Function(name, arguments)))
     }
 
     /// An expression in brackets.
     #[tactic(auto, unfolding(crate::specs::Parse::bracket, crate::specs::Parse::on_front, crate::specs::Parse::on_some))]
-    fn bracket<'a>(&self, list: &'a [Terminal]) -> Front<'a, Found>
+    fn bracket(&self, list: &mut &[Terminal]) -> Result<Found, Failure>
         requires { Nests self.now.depth (F.pre self.now.inner) (F.post self.now.inner) }
-        ensures { Reads (spec.bracket (spec.expression self.now.depth) list.now) result }
+        ensures { Reads (spec.bracket (spec.expression self.now.depth) list.old.now) result list.new.now }
     {
-        let Some((found, rest)) = self.deeper(1, list)? else {
-            return Ok(None);
-        };
-        let Some(after) = close(rest) else {
-            return Ok(None);
-        };
-        Ok(Some((bracketed(self.alloc, found)?, after)))
+        let found = self.deeper(1, list)?;
+        let found = past(found, close(list))?;
+        Ok(bracketed(self.alloc, found)?)
     }
 
     /// INSTR(
     #[tactic(auto, unfolding(crate::specs::Parse::instr, crate::specs::Parse::on_front, crate::specs::Parse::on_some))]
-    fn instr<'a>(&self, list: &'a [Terminal]) -> Front<'a, Found>
+    fn instr(&self, list: &mut &[Terminal]) -> Result<Found, Failure>
         requires { Nests self.now.depth (F.pre self.now.inner) (F.post self.now.inner) }
-        ensures { Reads (spec.instr (spec.expression self.now.depth) list.now) result }
+        ensures { Reads (spec.instr (spec.expression self.now.depth) list.old.now) result list.new.now }
     {
-        let Some((y, rest)) = self.text(4, list)? else {
-            return Ok(None);
-        };
-        let Some(after) = comma(rest) else {
-            return Ok(None);
-        };
-        self.instr_from(y, after)
+        let y = self.text(4, list)?;
+        let y = past(y, comma(list))?;
+        self.instr_from(y, list)
     }
 
     /// INSTR( after its first string.
     #[tactic(auto, unfolding(crate::specs::Parse::on_front))]
-    fn instr_from<'a>(&self, y: StrExpr, list: &'a [Terminal]) -> Front<'a, Found>
+    fn instr_from(&self, y: StrExpr, list: &mut &[Terminal]) -> Result<Found, Failure>
         requires { Nests self.now.depth (F.pre self.now.inner) (F.post self.now.inner) }
-        ensures { Reads (spec.instr_from (spec.expression self.now.depth) y list.now) result }
+        ensures { Reads (spec.instr_from (spec.expression self.now.depth) y list.old.now) result list.new.now }
     {
-        let Some((z, rest)) = self.text(4, list)? else {
-            return Ok(None);
-        };
-        let Some((from, after)) = self.end(rest)? else {
-            return Ok(None);
-        };
-        let tree = instr(self.alloc, y, z, from)?;
-        Ok(Some((Found::Number(7, tree), after)))
+        let (y, z) = with(y, self.text(4, list))?;
+        let ((y, z), from) = with((y, z), self.end(list))?;
+        Ok(Found::Number(7, instr(self.alloc, y, z, from)?))
     }
 
     /// MID$(
     #[tactic(auto, unfolding(crate::specs::Parse::middle, crate::specs::Parse::on_front, crate::specs::Parse::on_some))]
-    fn middle<'a>(&self, list: &'a [Terminal]) -> Front<'a, Found>
+    fn middle(&self, list: &mut &[Terminal]) -> Result<Found, Failure>
         requires { Nests self.now.depth (F.pre self.now.inner) (F.post self.now.inner) }
-        ensures { Reads (spec.middle (spec.expression self.now.depth) list.now) result }
+        ensures { Reads (spec.middle (spec.expression self.now.depth) list.old.now) result list.new.now }
     {
-        let Some((y, rest)) = self.text(4, list)? else {
-            return Ok(None);
-        };
-        let Some(after) = comma(rest) else {
-            return Ok(None);
-        };
-        self.middle_from(y, after)
+        let y = self.text(4, list)?;
+        let y = past(y, comma(list))?;
+        self.middle_from(y, list)
     }
 
     /// MID$( after its string.
     #[tactic(auto, unfolding(crate::specs::Parse::on_front))]
-    fn middle_from<'a>(&self, y: StrExpr, list: &'a [Terminal]) -> Front<'a, Found>
+    fn middle_from(&self, y: StrExpr, list: &mut &[Terminal]) -> Result<Found, Failure>
         requires { Nests self.now.depth (F.pre self.now.inner) (F.post self.now.inner) }
-        ensures { Reads (spec.middle_from (spec.expression self.now.depth) y list.now) result }
+        ensures { Reads (spec.middle_from (spec.expression self.now.depth) y list.old.now) result list.new.now }
     {
-        let Some((x, rest)) = self.number(1, list)? else {
-            return Ok(None);
-        };
-        let Some((count, after)) = self.end(rest)? else {
-            return Ok(None);
-        };
-        let tree = middle(self.alloc, y, x, count)?;
-        Ok(Some((Found::Text(tree), after)))
+        let (y, x) = with(y, self.number(1, list))?;
+        let ((y, x), count) = with((y, x), self.end(list))?;
+        Ok(Found::Text(middle(self.alloc, y, x, count)?))
     }
 
     /// STRING$(
     #[tactic(auto, unfolding(crate::specs::Parse::copies, crate::specs::Parse::on_front, crate::specs::Parse::on_some))]
-    fn copies<'a>(&self, list: &'a [Terminal]) -> Front<'a, Found>
+    fn copies(&self, list: &mut &[Terminal]) -> Result<Found, Failure>
         requires { Nests self.now.depth (F.pre self.now.inner) (F.post self.now.inner) }
-        ensures { Reads (spec.copies (spec.expression self.now.depth) list.now) result }
+        ensures { Reads (spec.copies (spec.expression self.now.depth) list.old.now) result list.new.now }
     {
-        let Some((x, rest)) = self.number(1, list)? else {
-            return Ok(None);
-        };
-        let Some(after) = comma(rest) else {
-            return Ok(None);
-        };
-        let Some((y, rest)) = self.text(4, after)? else {
-            return Ok(None);
-        };
-        let Some(after) = close(rest) else {
-            return Ok(None);
-        };
-        Ok(Some((Found::Text(copies(self.alloc, x, y)?), after)))
+        let x = self.number(1, list)?;
+        let x = past(x, comma(list))?;
+        let both = with(x, self.text(4, list))?;
+        let (x, y) = past(both, close(list))?;
+        Ok(Found::Text(copies(self.alloc, x, y)?))
     }
 
     /// LEFT$( or RIGHT$(
     #[tactic(auto, unfolding(crate::specs::Parse::part, crate::specs::Parse::on_front))]
-    fn part<'a>(&self, side: Side, list: &'a [Terminal]) -> Front<'a, Found>
+    fn part(&self, side: Side, list: &mut &[Terminal]) -> Result<Found, Failure>
         requires { Nests self.now.depth (F.pre self.now.inner) (F.post self.now.inner) }
-        ensures { Reads (spec.part (spec.expression self.now.depth) side list.now) result }
+        ensures { Reads (spec.part (spec.expression self.now.depth) side list.old.now) result list.new.now }
     {
-        let Some((y, rest)) = self.text(4, list)? else {
-            return Ok(None);
-        };
-        let Some((count, after)) = self.end(rest)? else {
-            return Ok(None);
-        };
-        Ok(Some((Found::Text(part(self.alloc, side, y, count)?), after)))
+        let y = self.text(4, list)?;
+        let (y, count) = with(y, self.end(list))?;
+        Ok(Found::Text(part(self.alloc, side, y, count)?))
     }
 
     /// STR$
     #[tactic(auto, unfolding(crate::specs::Parse::written, crate::specs::Parse::on_front, crate::specs::Parse::on_some))]
-    fn written<'a>(&self, list: &'a [Terminal]) -> Front<'a, Found>
+    fn written(&self, list: &mut &[Terminal]) -> Result<Found, Failure>
         requires { Nests self.now.depth (F.pre self.now.inner) (F.post self.now.inner) }
-        ensures { Reads (spec.written (spec.expression self.now.depth) list.now) result }
+        ensures { Reads (spec.written (spec.expression self.now.depth) list.old.now) result list.new.now }
     {
-        if let Some(after) = tilde(list) {
-            return self.written_as(NumberFormat::Hexadecimal, after);
+        if tilde(list).is_ok() {
+            return self.written_as(NumberFormat::Hexadecimal, list);
         }
         self.written_as(NumberFormat::Decimal, list)
     }
 
     /// STR$ of a number in a format.
     #[tactic(auto, unfolding(crate::specs::Parse::on_front))]
-    fn written_as<'a>(&self, format: NumberFormat, list: &'a [Terminal]) -> Front<'a, Found>
+    fn written_as(&self, format: NumberFormat, list: &mut &[Terminal]) -> Result<Found, Failure>
         requires { Nests self.now.depth (F.pre self.now.inner) (F.post self.now.inner) }
-        ensures { Reads (spec.written_as (spec.expression self.now.depth) format list.now) result }
+        ensures { Reads (spec.written_as (spec.expression self.now.depth) format list.old.now) result list.new.now }
     {
-        let Some((x, rest)) = self.number(6, list)? else {
-            return Ok(None);
-        };
+        let x = self.number(6, list)?;
         let x = Boxed::new(self.alloc, x)?;
-        Ok(Some((Found::Text(StrExpr::Written(format, x)), rest)))
+        Ok(Found::Text(StrExpr::Written(format, x)))
     }
 
     /// What begins with a keyword that has punctuation of its own.
-    fn worded<'a>(&self, word: Keyword, list: &'a [Terminal]) -> Front<'a, Found>
+    fn worded(&self, word: Keyword, list: &mut &[Terminal]) -> Result<Found, Failure>
         requires { Nests self.now.depth (F.pre self.now.inner) (F.post self.now.inner) }
-        ensures { Reads (spec.worded (spec.expression self.now.depth) word list.now) result }
+        ensures { Reads (spec.worded (spec.expression self.now.depth) word list.old.now) result list.new.now }
     {
         match word {
             Keyword::Instr => self.instr(list),
             Keyword::Mid => self.middle(list),
             Keyword::Copies => self.copies(list),
             Keyword::Str => self.written(list),
-            _ => Ok(None),
+            _ => Err(Failure::Absent),
         }
     }
 
     /// What begins with a name, a bracket or a keyword with punctuation of its own.
     #[tactic(auto, unfolding(crate::specs::Parse::formed))]
-    fn formed<'a>(&self, least: u8, terminal: Terminal, list: &'a [Terminal]) -> Front<'a, Found>
+    fn formed(
+        &self,
+        least: u8,
+        terminal: Terminal,
+        list: &mut &[Terminal],
+    ) -> Result<Found, Failure>
         requires { Nests self.now.depth (F.pre self.now.inner) (F.post self.now.inner) }
-        ensures { Reads (spec.formed (spec.expression self.now.depth) least terminal list.now) result }
+        ensures { Reads (spec.formed (spec.expression self.now.depth) least terminal list.old.now) result list.new.now }
     {
         match terminal {
             Terminal::IntName(name) => self.placed(least, Variable::Simple(name), list),
             Terminal::IntArray(name) => self.element(least, name, list),
             Terminal::StrName(name) => {
-                let variable = Variable::Simple(name);
-                Ok(Some((Found::Text(StrExpr::Variable(variable)), list)))
+                Ok(Found::Text(StrExpr::Variable(Variable::Simple(name))))
             }
             Terminal::StrArray(name) => self.text_element(name, list),
             Terminal::NumFunctionOpen(name) => self.function(name, list),
             Terminal::StrFunctionOpen(name) => self.text_function(name, list),
             Terminal::Open => self.bracket(list),
             Terminal::Keyword(word) => self.worded(word, list),
-            _ => Ok(None),
+            _ => Err(Failure::Absent),
         }
     }
 
     /// A number after a prefix.
     #[tactic(auto, unfolding(crate::specs::Parse::on_front))]
-    fn number_after<'a>(&self, prefix: Prefix, list: &'a [Terminal]) -> Front<'a, Found>
+    fn number_after(&self, prefix: Prefix, list: &mut &[Terminal]) -> Result<Found, Failure>
         requires { Nests self.now.depth (F.pre self.now.inner) (F.post self.now.inner) }
-        ensures { Reads (spec.number_after (spec.expression self.now.depth) (prefixed_number prefix) list.now) result }
+        ensures { Reads (spec.number_after (spec.expression self.now.depth) (prefixed_number prefix) list.old.now) result list.new.now }
     {
-        let Some((x, rest)) = self.number(6, list)? else {
-            return Ok(None);
-        };
-        Ok(Some((Found::Number(7, apply(self.alloc, prefix, x)?), rest)))
+        let x = self.number(6, list)?;
+        Ok(Found::Number(7, apply(self.alloc, prefix, x)?))
     }
 
     /// A number made of a string.
     #[tactic(auto, unfolding(crate::specs::Parse::on_front))]
-    fn number_of_text<'a>(&self, function: TextFunction, list: &'a [Terminal]) -> Front<'a, Found>
+    fn number_of_text(
+        &self,
+        function: TextFunction,
+        list: &mut &[Terminal],
+    ) -> Result<Found, Failure>
         requires { Nests self.now.depth (F.pre self.now.inner) (F.post self.now.inner) }
-        ensures { Reads (spec.number_of_text (spec.expression self.now.depth) (function_of_text function) list.now) result }
+        ensures { Reads (spec.number_of_text (spec.expression self.now.depth) (function_of_text function) list.old.now) result list.new.now }
     {
-        let Some((y, rest)) = self.text(6, list)? else {
-            return Ok(None);
-        };
+        let y = self.text(6, list)?;
         let y = Boxed::new(self.alloc, y)?;
-        Ok(Some((Found::Number(7, NumExpr::OfText(function, y)), rest)))
+        Ok(Found::Number(7, NumExpr::OfText(function, y)))
     }
 
     /// A string made of a number by a prefix.
     #[tactic(auto, unfolding(crate::specs::Parse::on_front))]
-    fn text_after<'a>(&self, prefix: TextPrefix, list: &'a [Terminal]) -> Front<'a, Found>
+    fn text_after(&self, prefix: TextPrefix, list: &mut &[Terminal]) -> Result<Found, Failure>
         requires { Nests self.now.depth (F.pre self.now.inner) (F.post self.now.inner) }
-        ensures { Reads (spec.text_after (spec.expression self.now.depth) (prefixed_text prefix) list.now) result }
+        ensures { Reads (spec.text_after (spec.expression self.now.depth) (prefixed_text prefix) list.old.now) result list.new.now }
     {
-        let Some((x, rest)) = self.number(6, list)? else {
-            return Ok(None);
-        };
-        Ok(Some((Found::Text(apply_text(self.alloc, prefix, x)?), rest)))
+        let x = self.number(6, list)?;
+        Ok(Found::Text(apply_text(self.alloc, prefix, x)?))
     }
 
     /// What begins with a word or a sign before an operand.
     #[tactic(auto, unfolding(crate::specs::Parse::prefixed, crate::specs::Parse::on_some))]
-    fn prefixed<'a>(&self, least: u8, terminal: Terminal, list: &'a [Terminal]) -> Front<'a, Found>
+    fn prefixed(
+        &self,
+        least: u8,
+        terminal: Terminal,
+        list: &mut &[Terminal],
+    ) -> Result<Found, Failure>
         requires { Nests self.now.depth (F.pre self.now.inner) (F.post self.now.inner) }
-        ensures { Reads (spec.prefixed (spec.expression self.now.depth) least (role terminal) terminal list.now) result }
+        ensures { Reads (spec.prefixed (spec.expression self.now.depth) least (role terminal) terminal list.old.now) result list.new.now }
     {
         if let Some(prefix) = prefix_of(terminal) {
             return self.number_after(prefix, list);
@@ -339,28 +307,36 @@ impl<F: for<'b> Fn(Global, usize, u8, &'b [Terminal]) -> Front<'b, Found>> Gramm
 
     /// What begins with a terminal.
     #[tactic(auto, unfolding(crate::specs::Parse::opened, crate::specs::Parse::on_some))]
-    fn opened<'a>(&self, least: u8, terminal: Terminal, list: &'a [Terminal]) -> Front<'a, Found>
+    fn opened(
+        &self,
+        least: u8,
+        terminal: Terminal,
+        list: &mut &[Terminal],
+    ) -> Result<Found, Failure>
         requires { Nests self.now.depth (F.pre self.now.inner) (F.post self.now.inner) }
-        ensures { Reads (spec.opened (spec.expression self.now.depth) least (role terminal) terminal list.now) result }
+        ensures { Reads (spec.opened (spec.expression self.now.depth) least (role terminal) terminal list.old.now) result list.new.now }
     {
         if let Some(x) = alone(self.alloc, terminal) {
-            return Ok(Some((Found::Number(7, x), list)));
+            return Ok(Found::Number(7, x));
         }
         if let Some(y) = alone_text(self.alloc, terminal) {
-            return Ok(Some((Found::Text(y), list)));
+            return Ok(Found::Text(y));
         }
         self.prefixed(least, terminal, list)
     }
 
     /// An operand.
     #[tactic(auto, unfolding(crate::specs::Parse::operand))]
-    pub fn operand<'a>(&self, least: u8, list: &'a [Terminal]) -> Front<'a, Found>
+    pub fn operand(&self, least: u8, list: &mut &[Terminal]) -> Result<Found, Failure>
         requires { Nests self.now.depth (F.pre self.now.inner) (F.post self.now.inner) }
-        ensures { Reads (spec.operand (spec.expression self.now.depth) least list.now) result }
+        ensures { Reads (spec.operand (spec.expression self.now.depth) least list.old.now) result list.new.now }
     {
-        match list {
-            [terminal, rest @ ..] => self.opened(least, *terminal, rest),
-            [] => Ok(None),
+        match *list {
+            [terminal, rest @ ..] => {
+                *list = rest;
+                self.opened(least, *terminal, list)
+            }
+            [] => Err(Failure::Absent),
         }
     }
 }

@@ -4,6 +4,7 @@ ghost use Rattle.expr_parse.specs.Terminals.{AreWithin, terminals_of};
 ghost use Rattle.bas_ast.specs.Expressions.{IsNum, IsStr};
 
 use crate::classify::terminals;
+use crate::failure::Failure;
 use crate::parser::{longest_num, longest_text};
 use bas_ast::{Name, NumExpr, StrExpr, Terminal};
 use bas_lex::Sym;
@@ -26,6 +27,20 @@ impl From<AllocError> for ParseError {
 
     fn from(_error: AllocError) -> ParseError {
         ParseError::NoMemory
+    }
+}
+
+impl From<Failure> for ParseError {
+    ghost use Rattle.std.specs.Prelude.{◌≡◌};
+    ghost use Rattle.expr_parse.specs.Parsed.{parse_error};
+
+    ghost from_gives = { λ failure error. error ≡ parse_error failure };
+
+    fn from(failure: Failure) -> ParseError {
+        match failure {
+            Failure::Absent => ParseError::Outside,
+            Failure::NoMemory => ParseError::NoMemory,
+        }
     }
 }
 
@@ -65,20 +80,16 @@ pub fn parse_str(
 pub fn front_num(alloc: Global, list: &[Terminal]) -> Result<(NumExpr, usize), ParseError>
     ensures { Parsed (IsNum 1) list.now result }
 {
-    match longest_num(alloc, list) {
-        Ok(Some((x, rest))) => Ok((x, list.len() - rest.len())),
-        Ok(None) => Err(ParseError::Outside),
-        Err(_) => Err(ParseError::NoMemory),
-    }
+    let mut rest = list;
+    let x = longest_num(alloc, &mut rest)?;
+    Ok((x, list.len() - rest.len()))
 }
 
 /// The longest string at the front of a line's terminals, and its number of terminals.
 pub fn front_text(alloc: Global, list: &[Terminal]) -> Result<(StrExpr, usize), ParseError>
     ensures { Parsed (IsStr 4) list.now result }
 {
-    match longest_text(alloc, list) {
-        Ok(Some((y, rest))) => Ok((y, list.len() - rest.len())),
-        Ok(None) => Err(ParseError::Outside),
-        Err(_) => Err(ParseError::NoMemory),
-    }
+    let mut rest = list;
+    let y = longest_text(alloc, &mut rest)?;
+    Ok((y, list.len() - rest.len()))
 }
