@@ -15,10 +15,10 @@ use Rattle.bas_parse.proofs.CompleteRuns.{one_run, run_none}
 use Rattle.bas_parse.proofs.SoundLines.{run_sound}
 use Rattle.profile_check.specs.declared.refusal.Refusal.{Refusal}
 use Rattle.profile_check.specs.Cutting.{Cut, IsCut, with_symbols}
-use Rattle.profile_check.specs.Profile.{in_profile}
+use Rattle.bas_rules.specs.Profile.{in_profile}
 use Rattle.profile_check.specs.Programs.{IsLine, AreLines, AreSpelled, IsProgram, numbered, labels_of, file_size}
 use Rattle.profile_check.specs.Refused.{IsFirstOutside, AreRefused}
-use Rattle.profile_check.specs.Structures.{first_unclosed}
+use Rattle.bas_rules.specs.Structures.{first_unclosed}
 use Rattle.profile_check.specs.Tables.{Lists, no_lists}
 use Rattle.profile_check.proofs.LineSteps.{no_meaning, outside_after}
 use Rattle.profile_check.proofs.Verdicts.{closed_where_none, refused_outside, refused_unclosed, refused_names}

@@ -1,10 +1,5 @@
-pub mod TextSteps
-pub mod NameKeys
 pub mod NumberSteps
 pub mod Cuts
-pub mod Profiles
-pub mod EndLaws
-pub mod StructureRows
 pub mod LineSteps
 pub mod Verdicts
 pub mod Decided

@@ -14,9 +14,9 @@ use Rattle.bas_ast.specs.declared.terminals.Terminal.{Terminal}
 use Rattle.bas_ast.specs.declared.terminals.Terminal.TheVariants as t
 use Rattle.bas_ast.specs.WellFormed.{weight}
 use Rattle.expr_parse.specs.Terminals.{terminal_of, terminals_from}
-use Rattle.profile_check.specs.Names.{name_of, renumbered}
+use Rattle.bas_rules.specs.Names.{name_of, renumbered}
 use Rattle.profile_check.specs.Tables.{Lists, NumberedLine, number_name, number_terminal, number_line, is_data}
-use Rattle.profile_check.specs.Texts.{quotation_mark, comma, space, quoted_from, literal_text, with_first, pieces_from, without_spaces, unquoted, item_text, data_item}
+use Rattle.bas_rules.specs.Texts.{quotation_mark, comma, space, quoted_from, literal_text, with_first, pieces_from, without_spaces, unquoted, item_text, data_item}
 use Rattle.profile_check.proofs.LineTexts.{of_named}
 use Rattle.profile_check.proofs.ShortTexts.{quoted_short}
 

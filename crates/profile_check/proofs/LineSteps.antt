@@ -10,7 +10,7 @@ use Rattle.bas_ast.specs.declared.terminals.Terminal.{Terminal}
 use Rattle.bas_ast.specs.Lines.{IsRun}
 use Rattle.expr_parse.specs.Terminals.{terminals_from}
 use Rattle.bas_parse.specs.Parsed.{OneRun}
-use Rattle.profile_check.specs.Profile.{in_profile}
+use Rattle.bas_rules.specs.Profile.{in_profile}
 use Rattle.profile_check.specs.declared.cut_line.CutLine.{CutLine}
 use Rattle.profile_check.specs.Cutting.{Cut, cut_of, cuts_of}
 use Rattle.profile_check.specs.Programs.{IsLine, AreLines, numbered}

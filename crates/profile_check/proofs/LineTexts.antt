@@ -11,11 +11,11 @@ use Rattle.bas_ast.specs.declared.program.Name.{Name}
 use Rattle.bas_ast.specs.declared.terminals.Terminal.{Terminal}
 use Rattle.bas_ast.specs.declared.terminals.Terminal.TheVariants as t
 use Rattle.bas_ast.specs.WellFormed.{literals, AreOfLine, DataOf}
-use Rattle.profile_check.specs.Names.{name_of, renumbered}
+use Rattle.bas_rules.specs.Names.{name_of, renumbered}
 use Rattle.profile_check.specs.Tables.{Lists, NumberedLine, number_name, number_terminal, number_line, is_data}
-use Rattle.profile_check.specs.Texts.{pieces_from, data_item}
+use Rattle.bas_rules.specs.Texts.{pieces_from, data_item}
 use Rattle.profile_check.proofs.DataTails.{tail_of, data_tails, data_numbers}
-use Rattle.profile_check.proofs.TextSteps.{with_front, pieces_some}
+use Rattle.bas_rules.proofs.TextSteps.{with_front, pieces_some}
 
 -- ---- a name's number changes nothing else of its terminal
 

@@ -13,7 +13,7 @@ use Rattle.bas_ast.specs.declared.program.NameKind.TheVariants as kind
 use Rattle.bas_ast.specs.declared.terminals.Terminal.{Terminal}
 use Rattle.bas_ast.specs.declared.terminals.Terminal.TheVariants as t
 use Rattle.bas_ast.specs.WellFormed.{IsNamed}
-use Rattle.profile_check.specs.Names.{kind_number, same_name, name_of, renumbered, add_name, number_of}
+use Rattle.bas_rules.specs.Names.{kind_number, same_name, name_of, renumbered, add_name, number_of}
 use Rattle.profile_check.specs.Tables.{Lists, number_name, number_terminal, number_line, is_data}
 
 -- ---- when two names are one

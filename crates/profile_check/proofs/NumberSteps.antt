@@ -5,7 +5,7 @@ use Rattle.bas_lex.specs.declared.symbol.Sym.{Sym}
 use Rattle.bas_ast.specs.declared.program.Name.{Name}
 use Rattle.bas_ast.specs.declared.terminals.Terminal.{Terminal}
 use Rattle.bas_ast.specs.declared.terminals.Terminal.TheVariants as t
-use Rattle.profile_check.specs.Names.{name_of}
+use Rattle.bas_rules.specs.Names.{name_of}
 use Rattle.profile_check.specs.Tables.{Lists, NumberedLine, number_name, number_terminal, number_line, is_data}
 
 -- a terminal that is a name

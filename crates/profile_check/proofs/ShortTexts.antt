@@ -10,10 +10,10 @@ use Rattle.bas_ast.specs.declared.program.Prog.{Prog}
 use Rattle.bas_ast.specs.declared.terminals.Terminal.{Terminal}
 use Rattle.bas_ast.specs.declared.terminals.Terminal.TheVariants as t
 use Rattle.profile_check.specs.Cutting.{Cut, IsCut}
-use Rattle.profile_check.specs.Names.{name_of}
+use Rattle.bas_rules.specs.Names.{name_of}
 use Rattle.profile_check.specs.Programs.{IsProgram, AreLines, labels_of, numbered}
 use Rattle.profile_check.specs.Tables.{Lists, no_lists, number_name, number_terminal, number_line, is_data}
-use Rattle.profile_check.specs.Texts.{quotation_mark, quoted_from, literal_text}
+use Rattle.bas_rules.specs.Texts.{quotation_mark, quoted_from, literal_text}
 
 -- each text has at most as many bytes
 abbrev pub AreShort : ℕ → List (List ℕ) → Type 0

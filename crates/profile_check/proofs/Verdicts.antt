@@ -20,7 +20,7 @@ use Rattle.profile_check.specs.declared.refusal.Which.TheVariants as limits
 use Rattle.profile_check.specs.Cutting.{Cut, IsCut, with_symbols, cut_of, cuts_of}
 use Rattle.profile_check.specs.Programs.{IsLine, AreLines, AreSpelled, IsProgram, numbered, labels_of, file_size}
 use Rattle.profile_check.specs.Refused.{IsFirstOutside, IsOutside, IsUnclosed, HasTooManyNames, Holds, FirstOf, OpenStructure, TooManyNames, AreRefused}
-use Rattle.profile_check.specs.Structures.{items_of, first_unclosed, closed_in}
+use Rattle.bas_rules.specs.Structures.{items_of, first_unclosed, closed_in}
 use Rattle.profile_check.specs.Tables.{Lists, no_lists}
 
 -- lines are cut in one way

@@ -19,10 +19,10 @@ use Rattle.bas_ast.specs.declared.terminals.Terminal.TheVariants as t
 use Rattle.bas_ast.specs.WellFormed.{IsNamed, AreLinesOf, literals, weight, IsDataOf, WellFormed}
 use Rattle.expr_parse.specs.Terminals.{terminals_of}
 use Rattle.profile_check.specs.Cutting.{Cut, IsCut, with_symbols}
-use Rattle.profile_check.specs.Names.{name_of}
+use Rattle.bas_rules.specs.Names.{name_of}
 use Rattle.profile_check.specs.Programs.{AreLines, IsProgram, labels_of, numbered}
 use Rattle.profile_check.specs.Tables.{Lists, NumberedLine, no_lists, number_name, number_terminal, number_line, is_data}
-use Rattle.profile_check.specs.Texts.{pieces_from, data_item}
+use Rattle.bas_rules.specs.Texts.{pieces_from, data_item}
 use Rattle.profile_check.proofs.DataTails.{data_numbers, run_data}
 use Rattle.profile_check.proofs.NameTables.{Keeps, Distinct, line_names}
 use Rattle.profile_check.proofs.LineTexts.{IsDataFrom, range_joined, data_of_items, line_literals, line_data}

@@ -1,10 +1,5 @@
 pub mod Cutting
-pub mod Names
-pub mod Texts
 pub mod Tables
-pub mod Profile
-pub mod Ends
-pub mod Structures
 pub mod Programs
 pub mod Refused
 pub mod Parsed

@@ -16,7 +16,7 @@ use Rattle.bas_ast.specs.Structures.{IsClosed}
 use Rattle.bas_ast.specs.WellFormed.{all_items}
 use Rattle.expr_parse.specs.Terminals.{terminals_of}
 use Rattle.profile_check.specs.Cutting.{Cut, IsCut}
-use Rattle.profile_check.specs.Profile.{in_profile}
+use Rattle.bas_rules.specs.Profile.{in_profile}
 use Rattle.profile_check.specs.Tables.{Lists, NumberedLine, no_lists, number_line}
 
 -- the label that a symbol of the assembler sets: its name without the point

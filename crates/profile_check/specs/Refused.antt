@@ -11,7 +11,7 @@ use Rattle.profile_check.specs.declared.refusal.Refusal.TheVariants as refusals
 use Rattle.profile_check.specs.declared.refusal.Which.TheVariants as limits
 use Rattle.profile_check.specs.Cutting.{Cut, IsCut}
 use Rattle.profile_check.specs.Programs.{IsLine, AreSpelled, labels_of, numbered}
-use Rattle.profile_check.specs.Structures.{items_of, first_unclosed}
+use Rattle.bas_rules.specs.Structures.{items_of, first_unclosed}
 use Rattle.profile_check.specs.Tables.{Lists, no_lists}
 
 -- The first of the lines that is no line of a program has this number; or where each is one, the line after them has it, in

@@ -8,9 +8,9 @@ use Rattle.bas_ast.specs.declared.program.Name.{Name}
 use Rattle.bas_ast.specs.declared.terminals.Terminal.{Terminal}
 use Rattle.bas_ast.specs.declared.terminals.Terminal.TheVariants as t
 use Rattle.profile_check.specs.declared.tables.Tables.{Tables}
-use Rattle.profile_check.specs.Names.{name_of, renumbered, add_name, number_of, names_of}
-pub use Rattle.profile_check.specs.Texts.{literal_text}
-use Rattle.profile_check.specs.Texts.{pieces_from, data_item}
+use Rattle.bas_rules.specs.Names.{name_of, renumbered, add_name, number_of, names_of}
+pub use Rattle.bas_rules.specs.Texts.{literal_text}
+use Rattle.bas_rules.specs.Texts.{pieces_from, data_item}
 
 -- The lists.
 pub record Lists : Type 0 where

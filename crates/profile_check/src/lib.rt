@@ -8,14 +8,10 @@ mod file;
 mod labels;
 mod laws;
 mod lines;
-mod names;
-mod profile;
 mod program;
 mod refusal;
 mod size;
-mod structures;
 mod tables;
-mod texts;
 
 pub use file::read_program;
 pub use laws::one_verdict;

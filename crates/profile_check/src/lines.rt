@@ -6,11 +6,11 @@ ghost use Rattle.profile_check.specs.Tables.{lists_of, no_lists};
 ghost use Rattle.profile_check.specs.Parsed as spec;
 
 use crate::cut_line::CutLine;
-use crate::profile::in_profile;
 use crate::refusal::Refusal;
 use crate::tables::{Tables, number_line};
 use bas_ast::{Item, Name, ProgLine};
 use bas_parse::{one_run, parse_run};
+use bas_rules::in_profile;
 use bv_base::NoMemory;
 use expr_parse::{ParseError, terminals};
 use sqlite_items::Items;

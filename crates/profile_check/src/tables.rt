@@ -5,10 +5,9 @@ ghost use Rattle.std.specs.Prelude.{◌≡◌, ◌≤◌, length, slice_range, I
 ghost use Rattle.profile_check.specs.Tables as spec;
 ghost use Rattle.expr_parse.specs.Terminals.{AreWithin};
 
-use crate::names::{Key, add_name, name_of, renumbered};
-use crate::texts::{push_items, quoted_text};
 use bas_ast::{DataItem, Keyword, Terminal};
 use bas_lex::Sym;
+use bas_rules::{Key, add_name, name_of, push_items, quoted_text, renumbered};
 use bv_base::NoMemory;
 use indexmap::IndexSet;
 use sqlite_items::Items;

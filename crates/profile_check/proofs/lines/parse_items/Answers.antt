@@ -7,7 +7,7 @@ use Rattle.bas_ast.specs.Lines.{IsRun}
 use Rattle.expr_parse.specs.Terminals.{terminals_of}
 use Rattle.bas_parse.specs.Parsed.{OneRun}
 use Rattle.profile_check.specs.Cutting.{cut_of}
-use Rattle.profile_check.specs.Profile.{in_profile}
+use Rattle.bas_rules.specs.Profile.{in_profile}
 use Rattle.profile_check.specs.Tables.{lists_of, number_line}
 use Rattle.profile_check.proofs.LineSteps.{terminals_each, no_meaning}
 use Rattle.profile_check.proofs.lines.parse_items.Goals as goal

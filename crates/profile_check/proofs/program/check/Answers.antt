@@ -3,8 +3,8 @@ use Rattle.std.proofs.lemmas.List.{length-map}
 use Rattle.bas_ast.specs.Structures.{IsClosed}
 use Rattle.bas_ast.specs.declared.program.ProgLine.{ProgLine}
 use Rattle.profile_check.specs.Cutting.{IsCut, cuts_of}
-use Rattle.profile_check.specs.Names.{name_of_key}
-use Rattle.profile_check.specs.Structures.{items_of, first_unclosed}
+use Rattle.bas_rules.specs.Names.{name_of_key}
+use Rattle.bas_rules.specs.Structures.{items_of, first_unclosed}
 use Rattle.profile_check.specs.Programs.{AreSpelled}
 use Rattle.profile_check.specs.Tables.{lists_of}
 use Rattle.profile_check.proofs.LineSteps.{outside_after}

@@ -1,5 +1,5 @@
 use Rattle.std.proofs.Common.{sym, ap, ◌∙◌}
-use Rattle.profile_check.specs.Names.{renumbered}
+use Rattle.bas_rules.specs.Names.{renumbered}
 use Rattle.profile_check.specs.Tables.{Numbered, lists_of}
 use Rattle.profile_check.proofs.NumberSteps.{named_terminal}
 use Rattle.profile_check.proofs.tables.number_terminal.Goals as goal

@@ -1,0 +1,7 @@
+use Rattle.std.proofs.Common.{◌≡◌, drop}
+use Rattle.std.specs.List.{list_all}
+use Rattle.bas_rules.specs.Profile as spec
+use Rattle.bas_rules.proofs.profile.print_in_profile.Given as goal
+
+abbrev pub invariant-loop-i : goal.invariant-loop-i
+invariant-loop-i l = list_all spec.print_part_in_profile l.parts ≡ list_all spec.print_part_in_profile (drop l.i l.parts)

@@ -1,6 +1,0 @@
-use Rattle.std.proofs.Common.{◌≡◌, take}
-use Rattle.profile_check.specs.Names as spec
-use Rattle.profile_check.proofs.names.listed.Given as goal
-
-abbrev pub invariant-loop-place : goal.invariant-loop-place
-invariant-loop-place l = l.list ≡ spec.names_of (take l.place l.names.keys)

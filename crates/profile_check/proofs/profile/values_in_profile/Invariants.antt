@@ -1,7 +1,0 @@
-use Rattle.std.proofs.Common.{◌≡◌, drop}
-use Rattle.std.specs.List.{list_all}
-use Rattle.profile_check.specs.Profile as spec
-use Rattle.profile_check.proofs.profile.values_in_profile.Given as goal
-
-abbrev pub invariant-loop-i : goal.invariant-loop-i
-invariant-loop-i l = list_all spec.value_in_profile l.values ≡ list_all spec.value_in_profile (drop l.i l.values)

@@ -1,8 +1,0 @@
-use Rattle.std.proofs.Common.{◌≡◌, ◌≤◌, ◌++◌, false, map}
-use Rattle.profile_check.specs.Texts as spec
-use Rattle.profile_check.proofs.TextSteps.{items_at}
-use Rattle.profile_check.proofs.texts.push_items.Given as goal
-
-abbrev pub invariant-loop-i : goal.invariant-loop-i
-invariant-loop-i l =
-    (l.start ≤ l.i) × (l.initial.items ++ map (spec.data_item l.line) (spec.pieces_from false l.tail) ≡ items_at l.line l.items l.start l.inside l.i l.tail)

@@ -1,9 +1,0 @@
-use Rattle.std.proofs.Common.{◌≡◌, length}
-use Rattle.profile_check.specs.Texts as spec
-use Rattle.profile_check.proofs.texts.without_spaces.Given as goal
-
-abbrev pub invariant-spaces : goal.invariant-spaces
-invariant-spaces l = spec.without_spaces l.bytes ≡ spec.without_spaces l.rest
-
-abbrev pub decreases-spaces : goal.decreases-spaces
-decreases-spaces l = length l.rest
