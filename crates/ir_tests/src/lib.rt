@@ -8,6 +8,7 @@ mod blocks;
 mod code;
 #[cfg(test)]
 mod data;
+#[cfg(test)]
 mod fused;
 #[cfg(test)]
 mod loops;
