@@ -9,4 +9,5 @@ mod CompileFacts
 mod ListFacts
 mod CrunchFacts
 mod InterpFacts
+mod Unread
 mod NoFaults

@@ -90,7 +90,10 @@ module _ (before after : SeenShelf) (out_before out_after : SeenSink) (held : (n
     pub explained : EndsCommand before after out_before out_after command ending
 
   pub no_read_fault : (command : Option Command) (status : Status) → Promised command status → status ≢ statuses.ReadFault
-  no_read_fault None status p is = let usage : status ≡ statuses.Usage = p.status_is ∙ ap status_of p.explained.0 in cc
+  no_read_fault None status p is = elim p.explained [
+    | inl unread ↦ let memory : status ≡ statuses.NoMemory = p.status_is ∙ ap status_of unread.0 in cc
+    | inr why ↦ let usage : status ≡ statuses.Usage = p.status_is ∙ ap status_of why.0 in cc
+  ]
   no_read_fault (Some (Listing file)) status p is = readable file ((p.list file refl).unreadable is)
   no_read_fault (Some (Compile file image)) status p is = readable file ((p.compile file image refl).unreadable is)
   no_read_fault (Some (Run image options)) status p is = run_read _ _ image options status (p.run image options refl) is
@@ -98,9 +101,21 @@ module _ (before after : SeenShelf) (out_before out_after : SeenSink) (held : (n
   no_read_fault (Some (Crunch text file)) status p is = readable text ((p.crunch text file refl).unreadable is)
 
   pub no_write_fault : (command : Option Command) (status : Status) → Promised command status → status ≢ statuses.WriteFault
-  no_write_fault None status p is = let usage : status ≡ statuses.Usage = p.status_is ∙ ap status_of p.explained.0 in cc
-  no_write_fault (Some (Listing file)) status p is = list_written file p.ending p.explained (sym p.status_is ∙ is)
-  no_write_fault (Some (Compile file image)) status p is = compile_written file image p.ending p.explained.0 (sym p.status_is ∙ is)
+  no_write_fault None status p is = elim p.explained [
+    | inl unread ↦ let memory : status ≡ statuses.NoMemory = p.status_is ∙ ap status_of unread.0 in cc
+    | inr why ↦ let usage : status ≡ statuses.Usage = p.status_is ∙ ap status_of why.0 in cc
+  ]
+  no_write_fault (Some (Listing file)) status p is = elim p.explained [
+    | inl unread ↦ let memory : status ≡ statuses.NoMemory = p.status_is ∙ ap status_of unread.0 in cc
+    | inr why ↦ list_written file p.ending why (sym p.status_is ∙ is)
+  ]
+  no_write_fault (Some (Compile file image)) status p is = elim p.explained [
+    | inl unread ↦ let memory : status ≡ statuses.NoMemory = p.status_is ∙ ap status_of unread.0 in cc
+    | inr why ↦ compile_written file image p.ending why.0 (sym p.status_is ∙ is)
+  ]
   no_write_fault (Some (Run image options)) status p is = run_written _ _ image options status (p.run image options refl) is
   no_write_fault (Some (Interpret file options)) status p is = run_written _ _ file options status (p.interp file options refl) is
-  no_write_fault (Some (Crunch text file)) status p is = crunch_written text file p.ending p.explained.0 (sym p.status_is ∙ is)
+  no_write_fault (Some (Crunch text file)) status p is = elim p.explained [
+    | inl unread ↦ let memory : status ≡ statuses.NoMemory = p.status_is ∙ ap status_of unread.0 in cc
+    | inr why ↦ crunch_written text file p.ending why.0 (sym p.status_is ∙ is)
+  ]

@@ -1,8 +1,9 @@
 -- What the program does, by the command that its words are. This project's own.
 use Rattle.std.specs.Prelude.{◌≡◌, ◌≢◌, ◌⊎◌, ℕ, List, Option, Some, None}
 use Rattle.basv_top.specs.declared.status.Status.{Status}
+use Rattle.profile_check.specs.declared.refusal.Refusal.TheVariants as refusals
 use Rattle.basv_words.specs.Command.{Command, Listing, Compile, Run, Interpret, Crunch}
-use Rattle.basv_top.specs.Ending.{Ending, Usage, status_of, line_of}
+use Rattle.basv_top.specs.Ending.{Ending, Usage, Refused, status_of, line_of}
 use Rattle.basv_top.specs.Seen.{SeenShelf, SeenSink, Silent, Same, Writes}
 use Rattle.basv_top.specs.ListCommand.{EndsList}
 use Rattle.basv_top.specs.CompileCommand.{EndsCompile, MayWrite}
@@ -10,14 +11,23 @@ use Rattle.basv_top.specs.CrunchCommand.{EndsCrunch}
 use Rattle.basv_top.specs.RunCommand.{EndsRun}
 use Rattle.basv_top.specs.InterpCommand.{EndsInterp}
 
+-- why a command ends so, or words that are none
+abbrev pub EndsRead : SeenShelf → SeenShelf → SeenSink → SeenSink → Option Command → Ending → Type 0
+EndsRead before after out_before out_after None ending = (ending ≡ Usage) × (after ≡ before) × Silent out_before out_after
+EndsRead before after out_before out_after (Some (Listing file)) ending = EndsList before after out_before out_after file ending
+EndsRead before after out_before out_after (Some (Compile file image)) ending = EndsCompile before after file image ending × Silent out_before out_after
+EndsRead before after out_before out_after (Some (Run image options)) ending = EndsRun before after out_before out_after image options ending
+EndsRead before after out_before out_after (Some (Interpret file options)) ending = EndsInterp before after out_before out_after file options ending
+EndsRead before after out_before out_after (Some (Crunch text file)) ending = EndsCrunch before after text file ending × Silent out_before out_after
+
+-- the words couldn't be read for want of memory, and nothing was done
+abbrev pub EndsUnread : SeenShelf → SeenShelf → SeenSink → SeenSink → Ending → Type 0
+EndsUnread before after out_before out_after ending = (ending ≡ Refused refusals.NoMemory) × (after ≡ before) × Silent out_before out_after
+
 -- why the words end so
 abbrev pub EndsCommand : SeenShelf → SeenShelf → SeenSink → SeenSink → Option Command → Ending → Type 0
-EndsCommand before after out_before out_after None ending = (ending ≡ Usage) × (after ≡ before) × Silent out_before out_after
-EndsCommand before after out_before out_after (Some (Listing file)) ending = EndsList before after out_before out_after file ending
-EndsCommand before after out_before out_after (Some (Compile file image)) ending = EndsCompile before after file image ending × Silent out_before out_after
-EndsCommand before after out_before out_after (Some (Run image options)) ending = EndsRun before after out_before out_after image options ending
-EndsCommand before after out_before out_after (Some (Interpret file options)) ending = EndsInterp before after out_before out_after file options ending
-EndsCommand before after out_before out_after (Some (Crunch text file)) ending = EndsCrunch before after text file ending × Silent out_before out_after
+EndsCommand before after out_before out_after command ending =
+    EndsUnread before after out_before out_after ending ⊎ EndsRead before after out_before out_after command ending
 
 -- The program ended in some way, for its reason, with the status of that way, and with its line on the error output.
 pub record Ends (before after : SeenShelf) (out_before out_after err_before err_after : SeenSink) (command : Option Command) (status : Status) : Type 0 where

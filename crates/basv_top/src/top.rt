@@ -1,6 +1,7 @@
 //! The program: what its words ask for, and how it ends.
 ghost use Rattle.std.specs.Prelude.{◌≡◌, ◌≢◌, ◌⊎◌, ℕ, List, None, Some, map, string_bytes};
 ghost use Rattle.basv_words.specs.Command.{Options, Listing, Compile, Run, Interpret, Crunch, command_of};
+ghost use Rattle.basv_words.specs.Meant.{meant};
 ghost use Rattle.basv_top.specs.CompileCommand.{Compiles};
 ghost use Rattle.basv_top.specs.CrunchCommand.{Crunches};
 ghost use Rattle.basv_top.specs.Ending.{told, status_of};
@@ -8,7 +9,7 @@ ghost use Rattle.basv_top.specs.InterpCommand.{Interprets};
 ghost use Rattle.basv_top.specs.ListCommand.{Lists};
 ghost use Rattle.basv_top.specs.RunCommand.{Runs};
 ghost use Rattle.basv_top.specs.Seen.{Silent, seen_shelf, seen_sink};
-ghost use Rattle.basv_top.specs.Top.{Ends, EndsCommand, OnlyNamed, SameUnlessWritten};
+ghost use Rattle.basv_top.specs.Top.{Ends, EndsCommand, EndsRead, OnlyNamed, SameUnlessWritten};
 
 use crate::compile_command::compile;
 use crate::crunch_command::crunch;
@@ -20,7 +21,29 @@ use crate::run_command::run;
 use crate::status::Status;
 use basv_words::{Command, read_command};
 use bv_io::{Shelf, Sink};
+use profile_check::Refusal;
 use std::alloc::Global;
+
+/// Does what a command asks for.
+fn perform<'a, S: Shelf, O: Sink>(
+    alloc: Global,
+    command: Command<'a>,
+    shelf: &mut S,
+    out: &mut O,
+) -> Ending<'a>
+    ensures ends { EndsRead (seen_shelf S.Shelf shelf.old) (seen_shelf S.Shelf shelf.new)
+        (seen_sink O.Sink out.old) (seen_sink O.Sink out.new) (Some (meant command.entry)) (told result) }
+    ensures changes { OnlyNamed (seen_shelf S.Shelf shelf.old) (seen_shelf S.Shelf shelf.new) (Some (meant command.entry)) }
+    ensures same { SameUnlessWritten (seen_shelf S.Shelf shelf.old) (seen_shelf S.Shelf shelf.new) (Some (meant command.entry)) (status_of (told result)) }
+{
+    match command {
+        Command::List { file } => list(alloc, file, shelf, out),
+        Command::Compile { file, image } => compile(alloc, file, image, shelf),
+        Command::Run { image, options } => run(alloc, image, options, shelf, out),
+        Command::Interpret { file, options } => interpret(alloc, file, options, shelf, out),
+        Command::Crunch { text, file } => crunch(alloc, text, file, shelf),
+    }
+}
 
 /// Does what the words ask for.
 fn carry_out<'a, S: Shelf, O: Sink>(
@@ -30,17 +53,14 @@ fn carry_out<'a, S: Shelf, O: Sink>(
     out: &mut O,
 ) -> Ending<'a>
     ensures ends { EndsCommand (seen_shelf S.Shelf shelf.old) (seen_shelf S.Shelf shelf.new)
-        (seen_sink O.Sink out.old) (seen_sink O.Sink out.new) (command_of (map string_bytes words.now)) (told result) }
-    ensures changes { OnlyNamed (seen_shelf S.Shelf shelf.old) (seen_shelf S.Shelf shelf.new) (command_of (map string_bytes words.now)) }
-    ensures same { SameUnlessWritten (seen_shelf S.Shelf shelf.old) (seen_shelf S.Shelf shelf.new) (command_of (map string_bytes words.now)) (status_of (told result)) }
+        (seen_sink O.Sink out.old) (seen_sink O.Sink out.new) (command_of (map string_bytes words.entry.now)) (told result) }
+    ensures changes { OnlyNamed (seen_shelf S.Shelf shelf.old) (seen_shelf S.Shelf shelf.new) (command_of (map string_bytes words.entry.now)) }
+    ensures same { SameUnlessWritten (seen_shelf S.Shelf shelf.old) (seen_shelf S.Shelf shelf.new) (command_of (map string_bytes words.entry.now)) (status_of (told result)) }
 {
-    match read_command(words) {
-        Some(Command::List { file }) => list(alloc, file, shelf, out),
-        Some(Command::Compile { file, image }) => compile(alloc, file, image, shelf),
-        Some(Command::Run { image, options }) => run(alloc, image, options, shelf, out),
-        Some(Command::Interpret { file, options }) => interpret(alloc, file, options, shelf, out),
-        Some(Command::Crunch { text, file }) => crunch(alloc, text, file, shelf),
-        None => Ending::Usage,
+    match read_command(alloc, words) {
+        Ok(Some(command)) => perform(alloc, command, shelf, out),
+        Ok(None) => Ending::Usage,
+        Err(_) => Ending::Refused(Refusal::NoMemory),
     }
 }
 
@@ -78,7 +98,7 @@ pub fn basv<S: Shelf, O: Sink, E: Sink>(
 
     // Words that are no command do nothing.
     ensures usage { command_of (map string_bytes words.now) ≡ None
-        → (result ≡ Status.Usage) × (seen_shelf S.Shelf shelf.new ≡ seen_shelf S.Shelf shelf.old)
+        → ((result ≡ Status.Usage) ⊎ (result ≡ Status.NoMemory)) × (seen_shelf S.Shelf shelf.new ≡ seen_shelf S.Shelf shelf.old)
         × Silent (seen_sink O.Sink out.old) (seen_sink O.Sink out.new) }
 
     // Each status has its cause, which is in its line on the error output.

@@ -27,31 +27,65 @@ fn assign(name: u16, x: NumExpr) -> Item {
     Item::Stmt(Stmt::Assign(Assignment::Number(target, x)))
 }
 
+/// A condition of two numbers.
+fn condition(
+    alloc: Global,
+    comparison: Comparison,
+    x: NumExpr,
+    y: NumExpr,
+) -> Result<Item, NoMemory> {
+    Ok(Item::If(binary(alloc, BinaryOp::Compare(comparison), x, y)?))
+}
+
+/// An assignment of what an operator makes.
+fn assign_binary(
+    alloc: Global,
+    name: u16,
+    op: BinaryOp,
+    x: NumExpr,
+    y: NumExpr,
+) -> Result<Item, NoMemory> {
+    Ok(assign(name, binary(alloc, op, x, y)?))
+}
+
+/// Items with one more. They are let go here alone where there is none.
+fn with_item(items: Items<Item>, item: Result<Item, NoMemory>) -> Result<Items<Item>, NoMemory> {
+    let mut longer = items;
+    match item {
+        Ok(item) => {
+            longer.push(item)?;
+            Ok(longer)
+        }
+        Err(error) => Err(error),
+    }
+}
+
 /// `IF A%<100000 THEN A%+=-32768 ELSE A%=A%-32768`
 fn first_line(alloc: Global) -> Result<Items<Item>, NoMemory> {
-    let less = BinaryOp::Compare(Comparison::Less);
     let target = NumTarget::Variable(Variable::Simple(LETTER));
     let add = Assignment::Add(target, NumExpr::Number(-32768));
-    let mut items = Items::new(alloc);
-    items.push(Item::If(binary(alloc, less, letter(), NumExpr::Number(100000))?))?;
-    items.push(Item::Stmt(Stmt::Assign(add)))?;
-    items.push(Item::Else)?;
-    let by_long = binary(alloc, BinaryOp::Subtract, letter(), NumExpr::Number(32768))?;
-    items.push(assign(LETTER, by_long))?;
-    Ok(items)
+    let less = condition(alloc, Comparison::Less, letter(), NumExpr::Number(100000));
+    let items = with_item(Items::new(alloc), less)?;
+    let items = with_item(items, Ok(Item::Stmt(Stmt::Assign(add))))?;
+    let items = with_item(items, Ok(Item::Else))?;
+    let long = assign_binary(
+        alloc,
+        LETTER,
+        BinaryOp::Subtract,
+        letter(),
+        NumExpr::Number(32768),
+    );
+    with_item(items, long)
 }
 
 /// `count%=count% AND A%` and `IF count%=A% THEN A%=count%-TRUE`
 fn second_line(alloc: Global) -> Result<Items<Item>, NoMemory> {
-    let mut items = Items::new(alloc);
-    items.push(assign(COUNT, binary(alloc, BinaryOp::And, count(), letter())?))?;
-    let equal = BinaryOp::Compare(Comparison::Equal);
-    items.push(Item::If(binary(alloc, equal, count(), letter())?))?;
-    items.push(assign(
-        LETTER,
-        binary(alloc, BinaryOp::Subtract, count(), NumExpr::True)?,
-    ))?;
-    Ok(items)
+    let and = assign_binary(alloc, COUNT, BinaryOp::And, count(), letter());
+    let items = with_item(Items::new(alloc), and)?;
+    let equal = condition(alloc, Comparison::Equal, count(), letter());
+    let items = with_item(items, equal)?;
+    let less_true = assign_binary(alloc, LETTER, BinaryOp::Subtract, count(), NumExpr::True);
+    with_item(items, less_true)
 }
 
 /// The two lines as lines 10 and 20.
