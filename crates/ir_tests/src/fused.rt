@@ -60,22 +60,34 @@ fn with_item(items: Items<Item>, item: Result<Item, NoMemory>) -> Result<Items<I
     }
 }
 
-/// `IF A%<100000 THEN A%+=-32768 ELSE A%=A%-32768`
-fn first_line(alloc: Global) -> Result<Items<Item>, NoMemory> {
+/// `A%+=-32768`
+fn change() -> Item {
     let target = NumTarget::Variable(Variable::Simple(LETTER));
-    let add = Assignment::Add(target, NumExpr::Number(-32768));
-    let less = condition(alloc, Comparison::Less, letter(), NumExpr::Number(100000));
-    let items = with_item(Items::new(alloc), less)?;
-    let items = with_item(items, Ok(Item::Stmt(Stmt::Assign(add))))?;
-    let items = with_item(items, Ok(Item::Else))?;
-    let long = assign_binary(
+    Item::Stmt(Stmt::Assign(Assignment::Add(target, NumExpr::Number(-32768))))
+}
+
+/// `IF A%<100000`
+fn if_less(alloc: Global) -> Result<Item, NoMemory> {
+    condition(alloc, Comparison::Less, letter(), NumExpr::Number(100000))
+}
+
+/// `A%=A%-32768`
+fn less_by_long(alloc: Global) -> Result<Item, NoMemory> {
+    assign_binary(
         alloc,
         LETTER,
         BinaryOp::Subtract,
         letter(),
         NumExpr::Number(32768),
-    );
-    with_item(items, long)
+    )
+}
+
+/// `IF A%<100000 THEN A%+=-32768 ELSE A%=A%-32768`
+fn first_line(alloc: Global) -> Result<Items<Item>, NoMemory> {
+    let items = with_item(Items::new(alloc), if_less(alloc))?;
+    let items = with_item(items, Ok(change()))?;
+    let items = with_item(items, Ok(Item::Else))?;
+    with_item(items, less_by_long(alloc))
 }
 
 /// `count%=count% AND A%` and `IF count%=A% THEN A%=count%-TRUE`
